@@ -1,0 +1,37 @@
+-- Document 01, "Numbers returned": the code and the place of each answer.
+-- Assumes nothing.
+use Prim.Native.Nat.{ℕ}
+use Rattle.rules.specs.declared.Answer.{Answer}
+use Rattle.rules.specs.declared.Answer.the-variants.{Done, FewBytes, BadVersion, BadPoints, BadCounts, BadLayout, BadLimit, BadLink, RepeatedLink, ShortRoom, HasLinks, NotControllable, NotClosed}
+
+-- the table's first column
+abbrev pub codeOf : Answer → ℕ
+codeOf Done = 0
+codeOf FewBytes = 1
+codeOf BadVersion = 2
+codeOf BadPoints = 3
+codeOf BadCounts = 4
+codeOf BadLayout = 5
+codeOf (BadLimit i) = 6
+codeOf (BadLink i) = 7
+codeOf (RepeatedLink i) = 8
+codeOf ShortRoom = 9
+codeOf HasLinks = 10
+codeOf NotControllable = 11
+codeOf NotClosed = 12
+
+-- "Place is 0 unless named."
+abbrev pub placeOf : Answer → ℕ
+placeOf Done = 0
+placeOf FewBytes = 0
+placeOf BadVersion = 0
+placeOf BadPoints = 0
+placeOf BadCounts = 0
+placeOf BadLayout = 0
+placeOf (BadLimit i) = i
+placeOf (BadLink i) = i
+placeOf (RepeatedLink i) = i
+placeOf ShortRoom = 0
+placeOf HasLinks = 0
+placeOf NotControllable = 0
+placeOf NotClosed = 0

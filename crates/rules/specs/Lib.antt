@@ -1,0 +1,7 @@
+-- The rule paper as definitions, a file for each part of it, in its order.
+pub mod Plan
+pub mod Edges
+pub mod Walks
+pub mod Cells
+pub mod Tables
+pub mod Answers
