@@ -10,3 +10,6 @@ pub mod Shortening
 pub mod Reach
 pub mod Domination
 pub mod Settled
+pub mod CellLimits
+pub mod Additions
+pub mod Demands

@@ -5,3 +5,6 @@ pub mod Walks
 pub mod Cells
 pub mod Tables
 pub mod Answers
+pub mod Additions
+pub mod Calls
+pub mod Demands
