@@ -21,7 +21,8 @@ module _ (r : Ranges) (p : Plan) (strict weak : Table) (c : Closed r p strict we
       under
       (c .strict-join x y z (derivable-ends p g a .from) (derivable-ends p g a .to) (derivable-ends p g b .to))
       (sum (strict-bound a) (strict-bound b))
-  strict-bound (lower {k} {r = j} h i n l d) = under (c .lower k j h i n) (lowered-at-most k j l (strict-bound d))
+  strict-bound (lower {k} {r = j} h i l d) =
+      under (c .lower k j h i (l .other)) (lowered-at-most k j (l .below) (strict-bound d))
   strict-bound (upper {k} {x} h d) = under (c .upper k h x (derivable-ends p g d .from)) (uppered-at-most k (strict-bound d))
 
   -- an open edge weighs at least its open cell

@@ -154,7 +154,7 @@ module _ (p : Plan) (g : Pointed p) (strict weak : Table) (t : Tables p strict w
           (walk-of (l .from) (l .to) (strict (l .from) (l .to)) (l .weight) (f .cell)
           (t .strict-least (l .from) (l .to) (f .row-below) (f .column-below)))
 
-      one : (l : Limit) → List·Memᴰ l (m ∷ tableLimits strict (p .points) (p .points))
+      one : (l : Limit) → List·Memᴰ l (withCells p strict m .limits)
         → Dominated (Derivable (withLimit p m)) (l .from) (l .to) (l .weight)
       one l h =
           ⊎-elim (λ e. exactly (single (edges.given (limit (List·Memᴰ·head e)))))
@@ -206,7 +206,7 @@ module _ (p : Plan) (g : Pointed p) (strict weak : Table) (t : Tables p strict w
       old l h (yes e) = on-diagonal l h e
       old l h (no ne) = off-diagonal l h ne
 
-      one : (l : Limit) → List·Memᴰ l (m ∷ p .limits) → Dominated (Derivable q) (l .from) (l .to) (l .weight)
+      one : (l : Limit) → List·Memᴰ l (withLimit p m .limits) → Dominated (Derivable q) (l .from) (l .to) (l .weight)
       one l h =
           ⊎-elim (λ e. exactly (single (edges.given (limit (List·Memᴰ·head e))))) (λ k. old l k (ℕ-discrete (l .from) (l .to)))
           (List·Memᴰ·cases-cons h)

@@ -73,7 +73,9 @@ lowered-at-most k j {c = num v} {w} h a =
 
 -- Upper is monotone in the weight it starts from
 pub upper-mono : (k : Link) {u v : ℤ} → u ≤ℤ v → upper-weight k u ≤ℤ upper-weight k v
-upper-mono k {u} {v} h = larger-mono (plus-mono h (≤ℤ-refl (negℤ (pos (k .long))))) (≤ℤ-refl (negℤ (pos (k .short))))
+upper-mono k {u} {v} h =
+    let d : (u -ℤ pos (k .long)) ≤ℤ (v -ℤ pos (k .long)) = plus-mono h (≤ℤ-refl (negℤ (pos (k .long)))) in
+    larger-mono (omega ints) (omega ints)
 
 -- Upper from a cell at most v yields at most what it yields from v
 pub uppered-at-most : (k : Link) {c : Cell} {v : ℤ} → AtMost c v → AtMost (uppered k c) (upper-weight k v)

@@ -2,7 +2,6 @@
 -- larger total, so has every derivable edge and every open walk of the second. Hence what is uncontrollable in the second is so in the
 -- first, and two plans that dominate each other have the same tables. Assumes nothing.
 use mathlib.Core.Path.{_≡_, refl, sym, subst, subst₂, _∙_}
-use mathlib.Core.Logic.{_≢_}
 use mathlib.Core.List.{List·Memᴰ}
 use Prim.Native.Nat.{ℕ, zero, _<_}
 use lib.IntN.{ℤ, pos, negℤ, _+ℤ_, _-ℤ_, +ℤ-idr}
@@ -11,7 +10,7 @@ use Rattle.whole.proofs.Order.{ints, plus-mono, ≤ℤ-trans}
 use Rattle.whole.proofs.Larger.{larger-right}
 use Rattle.rules.specs.Plan.{Link, Plan}
 use Rattle.rules.specs.Edges as edges
-use Rattle.rules.specs.Edges.{Given, shortest, Derivable, Open, spread, upper-weight}
+use Rattle.rules.specs.Edges.{Given, shortest, Derivable, Open, spread, Lowers, upper-weight}
 use Rattle.rules.specs.Walks.{Walk, stay, step, Uncontrollable}
 use Rattle.rules.specs.Cells.{Cell, mark, num, Table}
 use Rattle.rules.specs.Tables.{Least, Tables}
@@ -42,17 +41,16 @@ pub record Dominates (p q : Plan) : Type 0 where
 module _ (p : Plan) where
   -- Lower from a walk of at most w
   pub lower-walk : {k j : Link} {x y : ℕ} {w : ℤ} → List·Memᴰ k (p .links) → List·Memᴰ j (p .links) → x ≡ k .con → y ≡ j .con
-    → j .con ≢ k .con → w <ℤ spread j → Dominated (Derivable p) x y w → Dominated (Derivable p) (k .act) (j .con) (pos (k .short) +ℤ w)
-  lower-walk {k} {j} {x} {y} {w} hk hj ex ey ne l d = from (collapse (d .walk))
+    → Lowers k j w → Dominated (Derivable p) x y w → Dominated (Derivable p) (k .act) (j .con) (pos (k .short) +ℤ w)
+  lower-walk {k} {j} {x} {y} {w} hk hj ex ey l d = from (collapse (d .walk))
     where
       from : Collapsed p x y (d .total) → Dominated (Derivable p) (k .act) (j .con) (pos (k .short) +ℤ w)
-      from (nothing e i) = absurd (ne (sym ey ∙ sym e ∙ ex))
+      from (nothing e i) = absurd (l .other (sym ey ∙ sym e ∙ ex))
       from (edge e) =
           let e′ : Derivable p (k .con) (j .con) (d .total) = subst₂ (λ (a b : ℕ). Derivable p a b (d .total)) ex ey e in
-          let l′ : d .total <ℤ spread j = omega (ints, d .le, l) in
           record {
             total = pos (k .short) +ℤ d .total;
-            walk = single (edges.lower hk hj ne l′ e′);
+            walk = single (edges.lower hk hj (record { other = l .other; below = omega (ints, d .le, l .below) }) e′);
             le = plus-mono (≤ℤ-refl (pos (k .short))) (d .le) }
 
   -- Upper from a walk of at most v: from the empty walk, the link's shortest edge
@@ -75,8 +73,8 @@ module _ (p q : Plan) (h : Dominates p q) where
   pub derivable-dominated : {x y : ℕ} {w : ℤ} → Derivable q x y w → Dominated (Derivable p) x y w
   derivable-dominated {x} {y} {w} (edges.given e) = h .given x y w e
   derivable-dominated (edges.join a b) = after (derivable-dominated a) (derivable-dominated b)
-  derivable-dominated (edges.lower {k} {r = j} hk hj ne l d) =
-      lower-walk p (h .links k hk) (h .links j hj) refl refl ne l (derivable-dominated d)
+  derivable-dominated (edges.lower {k} {r = j} hk hj l d) =
+      lower-walk p (h .links k hk) (h .links j hj) refl refl l (derivable-dominated d)
   derivable-dominated (edges.upper {k} hk d) = upper-walk p (h .links k hk) refl (derivable-dominated d)
 
   open-edge-dominated : (x y : ℕ) (w : ℤ) → Open q x y w → Dominated (Open p) x y w

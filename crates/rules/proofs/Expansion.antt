@@ -23,7 +23,7 @@ pub data Basic (p : Plan) : ℕ → ℕ → ℤ → Type 0 where
 pub expand : {p : Plan} {x y : ℕ} {w : ℤ} → Derivable p x y w → Walk (Basic p) x y w
 expand (edges.given e) = single (basic-given e)
 expand (edges.join a b) = append (expand a) (expand b)
-expand (edges.lower h j n l d) = step (basic-lower-case h) (expand d)
+expand (edges.lower h j l d) = step (basic-lower-case h) (expand d)
 expand (edges.upper h d) = single (basic-upper h d)
 
 pub open-expand : {p : Plan} {x y : ℕ} {w : ℤ} → Open p x y w → Walk (Basic p) x y w

@@ -53,7 +53,7 @@ module _ (p : Plan) (g : Pointed p) where
   pub derivable-ends : {x y : ℕ} {w : ℤ} → Derivable p x y w → Ends p x y
   derivable-ends (given e) = given-ends e
   derivable-ends (join a b) = record { from = derivable-ends a .from; to = derivable-ends b .to }
-  derivable-ends (lower {k} {r} h j n l d) = record { from = g .link-act k h; to = g .link-con r j }
+  derivable-ends (lower {k} {r} h j l d) = record { from = g .link-act k h; to = g .link-con r j }
   derivable-ends (upper {k} h d) = record { from = derivable-ends d .from; to = g .link-act k h }
 
   pub open-ends : {x y : ℕ} {w : ℤ} → Open p x y w → Ends p x y

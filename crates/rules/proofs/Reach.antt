@@ -72,7 +72,7 @@ connected-after a b = record { total = a .total +ℤ b .total; walk = append (a 
 connected-derivable : {p : Plan} {x y : ℕ} {w : ℤ} → Derivable p x y w → Connected p x y
 connected-derivable (edges.given e) = connected-given e
 connected-derivable (edges.join a b) = connected-after (connected-derivable a) (connected-derivable b)
-connected-derivable (edges.lower {k} h j n l d) = connected-after (connected-given (longest {k = k} h)) (connected-derivable d)
+connected-derivable (edges.lower {k} h j l d) = connected-after (connected-given (longest {k = k} h)) (connected-derivable d)
 connected-derivable (edges.upper {k} h d) = connected-after (connected-derivable d) (connected-given (shortest {k = k} h))
 
 connected-open : {p : Plan} {x y : ℕ} {w : ℤ} → Open p x y w → Connected p x y

@@ -68,7 +68,7 @@ module _ (p : Plan) (strict weak : Table) (g : Pointed p) (t : Tables p strict w
       by true e =
           least-under (Derivable p) (k .act) (j .con) (strict (k .act) (j .con))
           (t .strict-least (k .act) (j .con) (g .link-act k hk) (g .link-con j hj))
-          (lower-walk p hk hj refl refl ne (ltZ-yes (rw e tt)) (exactly (h .0)))
+          (lower-walk p hk hj refl refl (record { other = ne; below = ltZ-yes (rw e tt) }) (exactly (h .0)))
       by false e = top (strict (k .act) (j .con))
 
   upper-below : (k : Link) → List·Memᴰ k (p .links) → (x : ℕ) → x < p .points

@@ -4,7 +4,7 @@ use mathlib.Core.Logic.{_≢_}
 use mathlib.Core.List.{List·Memᴰ}
 use Prim.Native.Nat.{ℕ, zero, _<_}
 use lib.IntN.{ℤ, pos, negℤ, _+ℤ_, _-ℤ_}
-use lib.Signed.{_<ℤ_}
+use lib.Signed.{_≤ℤ_, _<ℤ_}
 use Rattle.whole.specs.Signed.{larger}
 use Rattle.rules.specs.Plan.{Limit, Link, Plan}
 
@@ -24,12 +24,18 @@ spread k = pos (k .long) -ℤ pos (k .short)
 abbrev pub upper-weight : Link → ℤ → ℤ
 upper-weight k v = larger (v -ℤ pos (k .long)) (negℤ (pos (k .short)))
 
--- "An ordinary edge is derivable if it is given or comes from derivable ones by a rule." Join; Lower, "for a link A, l, u, C and a
--- contingent point R other than C"; Upper, "for a link A, l, u, C and any P, A and C included" (source document 001, the RUL- rules).
+-- where Lower applies: "for a link A, l, u, C and a contingent point R other than C, an ordinary edge C to R of w with w < D(R)"; k is C's
+-- link and r R's
+pub record Lowers (k r : Link) (w : ℤ) : Type 0 where
+  pub other : r .con ≢ k .con
+  pub below : w <ℤ spread r
+
+-- "An ordinary edge is derivable if it is given or comes from derivable ones by a rule." Join; Lower; Upper, "for
+-- a link A, l, u, C and any P, A and C included" (source document 001, the RUL- rules).
 pub data Derivable (p : Plan) : ℕ → ℕ → ℤ → Type 0 where
   given : {x y : ℕ} {w : ℤ} → Given p x y w → Derivable p x y w
   join : {x y z : ℕ} {v w : ℤ} → Derivable p x y v → Derivable p y z w → Derivable p x z (v +ℤ w)
-  lower : {k r : Link} {w : ℤ} → List·Memᴰ k (p .links) → List·Memᴰ r (p .links) → r .con ≢ k .con → w <ℤ spread r
+  lower : {k r : Link} {w : ℤ} → List·Memᴰ k (p .links) → List·Memᴰ r (p .links) → Lowers k r w
     → Derivable p (k .con) (r .con) w → Derivable p (k .act) (r .con) (pos (k .short) +ℤ w)
   upper : {k : Link} {x : ℕ} {v : ℤ} → List·Memᴰ k (p .links)
     → Derivable p x (k .con) v → Derivable p x (k .act) (upper-weight k v)
