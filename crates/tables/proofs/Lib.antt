@@ -1,0 +1,4 @@
+-- What a sweep keeps, proved on its functions of lists, with no code in sight.
+pub mod Numbers
+pub mod Lowering
+pub mod Steps
