@@ -2,3 +2,4 @@
 pub mod Numbers
 pub mod Lowering
 pub mod Steps
+pub mod Walked
