@@ -3,3 +3,4 @@ pub mod Numbers
 pub mod Lowering
 pub mod Steps
 pub mod Walked
+pub mod Settled
