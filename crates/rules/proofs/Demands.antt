@@ -12,7 +12,7 @@ use Rattle.rules.proofs.Additions.{end-tables, none-refused, some-refus
 -- "1,000,000 x (n - 1)" is in the closed range, and the mark is above it twice
 pub version1-coherent : Coherent version1
 unfolding version1
-version1-coherent = record { holds-walks = omega arith; mark-above = omega arith }
+version1-coherent = record { holds-weight = omega arith; holds-walks = omega arith; mark-above = omega arith }
 
 pub demand2-of-plans : (r : Ranges) → Coherent r → Demand2OfPlans r
 demand2-of-plans r c =

@@ -42,8 +42,9 @@ unfoldable pub version1 : Ranges
 version1 =
     record { points = 64; limits = 1_024; links = 32; weight = 1_000_000; mark = 2_147_483_647; reach = 63_000_000 }
 
--- numbers that go together: the closed range holds the longest walk's weight, and the mark is above every sum of two cells
+-- numbers that go together: the closed range holds one weight and the longest walk's, and the mark is above every sum of two cells
 pub record Coherent (r : Ranges) : Type 0 where
+  pub holds-weight : r .weight ≤ r .reach
   pub holds-walks : r .weight * (r .points - 1) ≤ r .reach
   pub mark-above : r .reach + r .reach < r .mark
 

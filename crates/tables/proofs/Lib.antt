@@ -4,3 +4,4 @@ pub mod Lowering
 pub mod Steps
 pub mod Walked
 pub mod Settled
+pub mod Heights

@@ -5,10 +5,11 @@ use mathlib.Core.Bool.{cond}
 use mathlib.Core.List.{List}
 use Prim.Native.Nat.{ℕ, zero, suc, _+_, _*_}
 use lib.Dec.{eqb}
-use lib.ListN.{set}
-use lib.IntN.{ℤ, pos, negℤ}
+use lib.ListN.{getD, set}
+use lib.IntN.{ℤ, pos, negℤ, _+ℤ_}
+use Rattle.whole.specs.Signed.{up}
 use Rattle.rules.specs.Plan.{Limit, Link, Ranges}
-use Rattle.rules.specs.Cells.{Cell, mark, num, _+ᶜ_, lowered, uppered, tableOf}
+use Rattle.rules.specs.Cells.{Cell, mark, num, _+ᶜ_, lowered, uppered, cellOf, tableOf}
 use Rattle.cell.specs.Steps.{smallerᶜ, clamped}
 
 -- a step for each number below m, in their order
@@ -131,3 +132,24 @@ linkEdges r n k t =
 
 unfoldable pub linkAll : Ranges → ℕ → (ℕ → Link) → ℕ → List ℤ → List ℤ
 linkAll r n link count t = iter (λ i. linkEdges r n (link i)) count t
+
+-- the strict table to start with: the mark everywhere, the diagonal, and every given edge
+unfoldable pub firstStrict : Ranges → ℕ → (ℕ → Limit) → ℕ → (ℕ → Link) → ℕ → List ℤ → List ℤ
+firstStrict r n limit limits link links t =
+    linkAll r n link links (startAll r n (limitAll r n limit limits (diagonalAll r n (markAll r (n * n) t))))
+
+-- the open table to start with: the mark everywhere, and the diagonal
+unfoldable pub firstOpen : Ranges → ℕ → List ℤ → List ℤ
+firstOpen r n t = diagonalAll r n (markAll r (n * n) t)
+
+-- ---- how far it can still fall
+
+-- how far a cell stands above the floor
+abbrev pub height : ℕ → Cell → ℕ
+height reach mark = reach + reach + 2
+height reach (num c) = up (c +ℤ pos (suc reach))
+
+-- the heights of the first m cells together
+unfoldable pub heights : Ranges → ℕ → List ℤ → ℕ
+heights r zero t = zero
+heights r (suc m) t = heights r m t + height (r .reach) (cellOf (r .mark) (getD t m (pos zero)))
