@@ -5,3 +5,4 @@ pub mod Steps
 pub mod Walked
 pub mod Settled
 pub mod Heights
+pub mod First
