@@ -150,7 +150,7 @@ module _ (p : Plan) (r : Ranges) (h : Coherent r) (g : Pointed p) (b : Weighted 
   start-lowers : Lowers r (p .points) (p .points) (λ x. lowerCell r (p .points) x zero (num (pos zero)))
   start-lowers x hx t s = cell-lowered r h (p .points) x zero (num (pos zero)) t hx (g .some-point) s
 
-  start-walked : (t : List ℤ) → Walked (Derivable p) r (p .points) t → Walked (Derivable p) r (p .points) (startAll r (p .points) t)
+  pub start-walked : (t : List ℤ) → Walked (Derivable p) r (p .points) t → Walked (Derivable p) r (p .points) (startAll r (p .points) t)
   unfolding startAll
   start-walked t w =
       iter-keeps (Walked (Derivable p) r (p .points)) (p .points) (λ x. lowerCell r (p .points) x zero (num (pos zero)))
@@ -158,12 +158,12 @@ module _ (p : Plan) (r : Ranges) (h : Coherent r) (g : Pointed p) (b : Weighted 
         cell-walked (Derivable p) r h (p .points) x zero (num (pos zero)) u hx (g .some-point) (exactly (single (edges.given (edges.start hx)))) k)
       t w
 
-  start-lowered : (t : List ℤ) → Sound r (p .points) t → Lowered r (p .points) t (startAll r (p .points) t)
+  pub start-lowered : (t : List ℤ) → Sound r (p .points) t → Lowered r (p .points) t (startAll r (p .points) t)
   unfolding startAll
   start-lowered t s =
       iter-lowered r (p .points) (p .points) (λ x. lowerCell r (p .points) x zero (num (pos zero))) start-lowers t s
 
-  start-below : (t : List ℤ) → Sound r (p .points) t → (x : ℕ) → x < p .points
+  pub start-below : (t : List ℤ) → Sound r (p .points) t → (x : ℕ) → x < p .points
     → tableOf r (p .points) (startAll r (p .points) t) x zero ≤ᶜ num (pos zero)
   unfolding startAll
   start-below t s x hx =
@@ -186,7 +186,7 @@ module _ (p : Plan) (r : Ranges) (h : Coherent r) (g : Pointed p) (b : Weighted 
         cell-lowered r h (p .points) (limit i .from) (limit i .to) (num (limit i .weight)) t (g .limit-from (limit i) (a .member i hi))
         (g .limit-to (limit i) (a .member i hi)) s
 
-    limit-walked : (t : List ℤ) → Walked (Derivable p) r (p .points) t
+    pub limit-walked : (t : List ℤ) → Walked (Derivable p) r (p .points) t
       → Walked (Derivable p) r (p .points) (limitAll r (p .points) limit count t)
     unfolding limitAll limitCell
     limit-walked t w =
@@ -197,11 +197,11 @@ module _ (p : Plan) (r : Ranges) (h : Coherent r) (g : Pointed p) (b : Weighted 
           (exactly (single (edges.given (edges.limit (a .member i hi))))) k)
         t w
 
-    limit-lowered : (t : List ℤ) → Sound r (p .points) t → Lowered r (p .points) t (limitAll r (p .points) limit count t)
+    pub limit-lowered : (t : List ℤ) → Sound r (p .points) t → Lowered r (p .points) t (limitAll r (p .points) limit count t)
     unfolding limitAll
     limit-lowered t s = iter-lowered r (p .points) count (λ i. limitCell r (p .points) (limit i)) limit-lowers t s
 
-    limit-below : (t : List ℤ) → Sound r (p .points) t → (m : Limit) → List·Memᴰ m (p .limits)
+    pub limit-below : (t : List ℤ) → Sound r (p .points) t → (m : Limit) → List·Memᴰ m (p .limits)
       → tableOf r (p .points) (limitAll r (p .points) limit count t) (m .from) (m .to) ≤ᶜ num (m .weight)
     unfolding limitAll limitCell
     limit-below t s m k =
@@ -227,7 +227,7 @@ module _ (p : Plan) (r : Ranges) (h : Coherent r) (g : Pointed p) (b : Weighted 
     link-lowers : Lowers r (p .points) count (λ i. linkEdges r (p .points) (link i))
     link-lowers i hi t s = edges-lowered (link i) (a .links .member i hi) t s
 
-    link-walked : (t : List ℤ) → Walked (Derivable p) r (p .points) t
+    pub link-walked : (t : List ℤ) → Walked (Derivable p) r (p .points) t
       → Walked (Derivable p) r (p .points) (linkAll r (p .points) link count t)
     unfolding linkAll linkEdges
     link-walked t w =
@@ -241,11 +241,11 @@ module _ (p : Plan) (r : Ranges) (h : Coherent r) (g : Pointed p) (b : Weighted 
           (g .link-con (link i) m) (exactly (single (edges.given (edges.longest m)))) k))
         t w
 
-    link-lowered : (t : List ℤ) → Sound r (p .points) t → Lowered r (p .points) t (linkAll r (p .points) link count t)
+    pub link-lowered : (t : List ℤ) → Sound r (p .points) t → Lowered r (p .points) t (linkAll r (p .points) link count t)
     unfolding linkAll
     link-lowered t s = iter-lowered r (p .points) count (λ i. linkEdges r (p .points) (link i)) link-lowers t s
 
-    longest-below : (t : List ℤ) → Sound r (p .points) t → (k : Link) → List·Memᴰ k (p .links)
+    pub longest-below : (t : List ℤ) → Sound r (p .points) t → (k : Link) → List·Memᴰ k (p .links)
       → tableOf r (p .points) (linkAll r (p .points) link count t) (k .act) (k .con) ≤ᶜ num (pos (k .long))
     unfolding linkAll linkEdges
     longest-below t s k m =
@@ -264,7 +264,7 @@ module _ (p : Plan) (r : Ranges) (h : Coherent r) (g : Pointed p) (b : Weighted 
           (in-reach-low (k .act) (k .con) (pos (k .long)) (edges.longest m)) (in-reach-high (k .act) (k .con) (pos (k .long)) (edges.longest m)))))
         t s
 
-    shortest-below : (t : List ℤ) → Sound r (p .points) t → (k : Link) → List·Memᴰ k (p .links)
+    pub shortest-below : (t : List ℤ) → Sound r (p .points) t → (k : Link) → List·Memᴰ k (p .links)
       → tableOf r (p .points) (linkAll r (p .points) link count t) (k .con) (k .act) ≤ᶜ num (negℤ (pos (k .short)))
     unfolding linkAll linkEdges
     shortest-below t s k m =

@@ -6,3 +6,4 @@ pub mod Walked
 pub mod Settled
 pub mod Heights
 pub mod First
+pub mod Going
