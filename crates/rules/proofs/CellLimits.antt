@@ -216,3 +216,17 @@ module _ (p : Plan) (g : Pointed p) (strict weak : Table) (t : Tables p strict w
       edge x y w (start h) = exactly (single (edges.given (start h)))
       edge x y w (longest h) = exactly (single (edges.given (longest h)))
       edge x y w (shortest h) = exactly (single (edges.given (shortest h)))
+
+-- the plan of the cells with a limit names points below n
+pub cells-pointed : (p : Plan) (strict : Table) (m : Limit) → Pointed p → m .from < p .points → m .to < p .points → Pointed (withCells p strict m)
+cells-pointed p strict m g hf ht =
+    record {
+      some-point = g .some-point;
+      limit-from = λ l h.
+        ⊎-elim (λ e. subst (λ (k : Limit). k .from < p .points) (sym e) hf) (λ k. table-limit strict (p .points) (p .points) k .row-below)
+        (List·Memᴰ·cases-cons h);
+      limit-to = λ l h.
+        ⊎-elim (λ e. subst (λ (k : Limit). k .to < p .points) (sym e) ht) (λ k. table-limit strict (p .points) (p .points) k .column-below)
+        (List·Memᴰ·cases-cons h);
+      link-act = g .link-act;
+      link-con = g .link-con }

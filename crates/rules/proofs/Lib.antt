@@ -13,3 +13,5 @@ pub mod Settled
 pub mod CellLimits
 pub mod Additions
 pub mod Demands
+pub mod Lists
+pub mod OneAnswer

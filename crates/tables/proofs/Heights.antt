@@ -12,10 +12,11 @@ use Rattle.whole.specs.Signed.{up, dn}
 use Rattle.whole.proofs.Order.{ints, plus, parts, by-eq}
 use Rattle.whole.proofs.Place.{inside, Spot, spot}
 use Rattle.rules.specs.Plan.{Ranges}
+use Rattle.rules.proofs.Lists.{same-list}
 use Rattle.rules.specs.Cells.{Cell, mark, num, _≤ᶜ_, cellOf, tableOf}
 use Rattle.cell.specs.Steps.{Stored}
 use Rattle.tables.specs.Sweep.{height, heights}
-use Rattle.tables.proofs.Lowering.{Sound, Lowered, same-list}
+use Rattle.tables.proofs.Lowering.{Sound, Lowered}
 
 -- a smaller cell stands no higher
 pub height-mono : (reach : ℕ) (c d : Cell) → Stored reach c → Stored reach d → c ≤ᶜ d → height reach c ≤ height reach d

@@ -6,16 +6,16 @@ use mathlib.Core.List.{List}
 use Prim.Native.Nat.{ℕ, zero, suc, _+_, _*_, _≤_, _<_}
 use native.Mathlib.Nat.{lt-irrefl, not-suc-le-zero, eq-or-lt-of-le, le-of-suc-le-suc, lt-of-lt-of-le}
 use native.Mathlib.Omega.{arith}
-use native.Mathlib.Decide.{decLe}
 use lib.ListN.{length, getD, set, length-set}
-use lib.Seq.{ext-getD, getD-set-other}
+use lib.Seq.{getD-set-other}
 use lib.IntN.{ℤ, pos}
-use Rattle.whole.proofs.Place.{inside, after-write, Spot, spot}
+use Rattle.whole.proofs.Place.{inside, after-write}
 use Rattle.rules.specs.Plan.{Ranges, Coherent}
+use Rattle.rules.proofs.Lists.{same-list}
 use Rattle.rules.specs.Cells.{Cell, _≤ᶜ_, cellOf, tableOf}
 use Rattle.cell.specs.Steps.{smallerᶜ, Stored, clamped}
 use Rattle.tables.specs.Sweep.{iter, numberOf, lowerCell}
-use Rattle.tables.proofs.Numbers.{cell-injective, cell-of-number, ≤ᶜ-refl, ≤ᶜ-trans, ≤ᶜ-antisym, smaller-left, smaller-right, smaller-keeps, clamped-stored}
+use Rattle.tables.proofs.Numbers.{cell-of-number, ≤ᶜ-refl, ≤ᶜ-trans, ≤ᶜ-antisym, smaller-left, smaller-right, smaller-keeps, clamped-stored}
 
 -- a list with room for a table whose cells a sweep stores
 pub record Sound (r : Ranges) (n : ℕ) (t : List ℤ) : Type 0 where
@@ -40,19 +40,6 @@ lowered-trans r n t u v a b =
       beyond = λ i h. b .beyond i h ∙ a .beyond i h;
       down = λ x y hx hy. ≤ᶜ-trans (tableOf r n v x y) (tableOf r n u x y) (tableOf r n t x y) (b .down x y hx hy) (a .down x y hx hy);
       sound = b .sound }
-
--- two lists with the same cells, the same length and the same numbers past the room are one list
-pub same-list : (r : Ranges) (n : ℕ) (t u : List ℤ) → length t ≡ length u → ((i : ℕ) → n * n ≤ i → getD t i (pos zero) ≡ getD u i (pos zero))
-    → ((x y : ℕ) → x < n → y < n → tableOf r n t x y ≡ tableOf r n u x y) → t ≡ u
-unfolding tableOf
-same-list r n t u e b c = ext-getD (pos zero) t u e (λ i h. at i (decLe (n * n) i))
-  where
-    at : (i : ℕ) → Dec (n * n ≤ i) → getD t i (pos zero) ≡ getD u i (pos zero)
-    at i (yes h) = b i h
-    at i (no h) =
-        let s : Spot n i = spot n i (omega arith) in
-        subst (λ (k : ℕ). getD t k (pos zero) ≡ getD u k (pos zero)) (sym (s .is))
-        (cell-injective r (c (s .row) (s .column) (s .row-below) (s .column-below)))
 
 -- a list lowered, and lowered back to what it was, was not changed
 pub lowered-antisym : (r : Ranges) (n : ℕ) (t u : List ℤ) → Lowered r n t u → Lowered r n u t → u ≡ t

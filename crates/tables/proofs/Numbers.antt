@@ -24,10 +24,6 @@ number-of-cell r (pos c) = by (eqb c (r .mark)) refl
     by true e = ap pos (sym (eqb→eq c (r .mark) (rw e tt)))
     by false e = refl
 
--- so two numbers that are read as one cell are one number
-pub cell-injective : (r : Ranges) {a b : ℤ} → cellOf (r .mark) a ≡ cellOf (r .mark) b → a ≡ b
-cell-injective r {a} {b} e = sym (number-of-cell r a) ∙ ap (numberOf r) e ∙ number-of-cell r b
-
 -- a cell that a sweep stores is read back as it is
 pub cell-of-number : (r : Ranges) → Coherent r → (c : Cell) → Stored (r .reach) c → cellOf (r .mark) (numberOf r c) ≡ c
 cell-of-number r h mark s = by (eqb (r .mark) (r .mark)) (eqb-refl (r .mark))
