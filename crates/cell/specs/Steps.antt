@@ -1,5 +1,6 @@
 -- What the methods of a cell compute, on the cells of document 01 ("Two tables"), and the ranges they are used in.
 -- Assumes nothing.
+use mathlib.Core.Path.{_≡_}
 use mathlib.Core.Bool.{Bool, true, false, cond}
 use Prim.Native.Nat.{ℕ}
 use lib.IntN.{ℤ, pos, negsuc, negℤ}
@@ -44,3 +45,13 @@ Stored reach (num c) = (negsuc reach ≤ℤ c) × (c ≤ℤ pos reach)
 abbrev pub clamped : ℕ → Cell → Cell
 clamped reach mark = mark
 clamped reach (num c) = cond (ltZ (pos reach) c) mark (cond (ltZ c (negℤ (pos reach))) (num (negsuc reach)) (num c))
+
+-- a cell as a number of a table: the mark by the number that stands for it
+abbrev pub numberOf : ℕ → Cell → ℤ
+numberOf m mark = pos m
+numberOf m (num a) = a
+
+-- a test that decides a statement
+pub record Decides (b : Bool) (P : Type 0) : Type 0 where
+  pub holds : b ≡ true → P
+  pub fails : b ≡ false → P → ⊥

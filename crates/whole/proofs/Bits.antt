@@ -6,14 +6,14 @@
 --   a flag of `==` or `!=`               same h k (c .if1 .taken), same-pos beside a literal; differ w32 (c .if1 .left)
 -- That a parameter fits is `c .fits .x`. Of a field, an element and a callee's result the record has the bound alone, at
 -- `c .struct-told .given .0 .1`, `c .VAR .given` and `c .f .ok`: `fit w a` makes it a fact like the others. Assumes nothing.
-use mathlib.Core.Path.{_≡_, sym, ap, _∙_}
+use mathlib.Core.Path.{_≡_, refl, sym, ap, _∙_}
 use mathlib.Core.Bool.{Bool, true, false, not}
 use Prim.Native.Nat.{ℕ, zero, suc, _+_, _-_, _^_, _≤_, _<_, max}
 use native.Mathlib.Nat.{le-of-suc-le-suc}
 use native.Mathlib.Omega.{arith}
-use lib.Dec.{T, lt→ltb, nleb→lt}
+use lib.Dec.{T, not-T, lt→ltb, nleb→lt}
 use lib.IntN.{ℤ, pos, negsuc, negℤ, natAbs, _+ℤ_, _-ℤ_, +ℤ-idl}
-use lib.Signed.{mag, leZ, ltZ, nonNeg, _≤ℤ_, leZ-yes, ltZ-yes, ltZ-no, pos-natAbs}
+use lib.Signed.{mag, leZ, ltZ, nonNeg, _≤ℤ_, _<ℤ_, leZ-yes, ltZ-yes, ltZ-no, pos-natAbs}
 use mir.Syntax.{Width}
 use mir.Val.{SFits, ofZ, toZ, hbits}
 use mir.ValLaws.{toZ-ofZ, toZ-pos}
@@ -107,6 +107,28 @@ leZ-true a b e = le a b (leZ-yes (T-true (leZ a b) e))
 
 pub leZ-false : (a b : ℤ) → leZ a b ≡ false → up b + dn a < up a + dn b
 leZ-false a b e = lt b a (ltZ-yes (nle a b (T-false (leZ a b) e)))
+
+-- the other way: the flag from the fact, where a contract speaks of the flag
+T-is : (b : Bool) → T b → b ≡ true
+T-is true t = refl
+T-is false t = absurd t
+
+T-not-is : (b : Bool) → T (not b) → b ≡ false
+T-not-is true t = absurd t
+T-not-is false t = refl
+
+nlt : (a b : ℤ) → T (leZ b a) → T (not (ltZ a b))
+nlt a b t = not-T (ltZ a b) (λ l. omega (arith, le b a (leZ-yes t), lt a b (ltZ-yes l)))
+
+pub lt-ltZ : (a b : ℤ) → a <ℤ b → ltZ a b ≡ true
+lt-ltZ a b h = T-is (ltZ a b) (h .lt)
+
+pub le-ltZ : (a b : ℤ) → b ≤ℤ a → ltZ a b ≡ false
+le-ltZ a b h = T-not-is (ltZ a b) (nlt a b (h .le))
+
+-- a flag that a callee computed and the code tested: what the callee says of it
+pub tested : {b f t : Bool} → b ≡ f → b ≡ t → f ≡ t
+tested e g = sym e ∙ g
 
 -- a number is not negative, as a cast to an unsigned type asks
 pub by-nonNeg : (a : ℤ) → dn a ≤ up a → T (nonNeg a)

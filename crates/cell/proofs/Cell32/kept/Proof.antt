@@ -1,0 +1,39 @@
+-- `Cell32::kept` meets its contract, by the two tests against the ends of the reach. Assumes nothing.
+use borrow.Author.Needs.{needs}
+use mathlib.Core.Path.{sym, _∙_}
+use Rattle.whole.proofs.Bits.{tested}
+use Rattle.rules.specs.Plan.{version1}
+use Rattle.cell.proofs.Laws.{room32, clamp-above, clamp-below, clamp-within}
+use Rattle.cell.proofs.Cell32.kept.Statement.{statement}
+use Rattle.cell.proofs.Cell32.kept.Tie as tie
+
+less-requires : tie.Need-less-requires
+less-requires c κs = search needs
+
+mark-requires : tie.Need-mark-requires
+mark-requires c κs = search needs
+
+returns : tie.Need-returns
+unfolding version1
+returns c =
+    let s = c .before in
+    c .mark .ensures ∙ sym (clamp-above room32 (s .before .before .args .self .v) (tested (s .before .less .ensures) (s .if1 .taken)))
+
+less-requires-2 : tie.Need-less-requires-2
+less-requires-2 c κs = search needs
+
+returns-2 : tie.Need-returns-2
+unfolding version1
+returns-2 c =
+    let s = c .before .before in
+    sym (clamp-below room32 (s .before .before .args .self .v) (tested (s .before .less .ensures) (s .if1 .left)) (tested (c .before .less2 .ensures) (c .if2 .taken)))
+
+returns-3 : tie.Need-returns-3
+unfolding version1
+returns-3 c =
+    let s = c .before .before in
+    sym (clamp-within room32 (s .before .before .args .self .v) (tested (s .before .less .ensures) (s .if1 .left)) (tested (c .before .less2 .ensures) (c .if2 .left)))
+
+pub kept-spec : {M : Type 1} → statement M
+kept-spec =
+    tie.close (tie.spec less-requires mark-requires returns less-requires-2 returns-2 returns-3)

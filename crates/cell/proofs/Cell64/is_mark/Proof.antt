@@ -1,0 +1,14 @@
+-- `Cell64::is_mark` meets its contract: the bits are those of the mark where the cell is it. Assumes nothing.
+use mir.Syntax.{w64}
+use Rattle.whole.proofs.Bits.{fit}
+use Rattle.cell.specs.Steps.{adding}
+use Rattle.cell.proofs.Laws.{room64, mark-flag}
+use Rattle.cell.proofs.Cell64.is_mark.Statement.{statement}
+use Rattle.cell.proofs.Cell64.is_mark.Tie as tie
+
+returns : tie.Need-returns
+unfolding adding
+returns c = mark-flag room64 (c .before .before .args .self .v) (fit w64 (c .before .before .args .self .v) (c .struct-told .given .0 .1))
+
+pub is-mark-spec : {M : Type 1} → statement M
+is-mark-spec = tie.close (tie.spec returns)

@@ -1,0 +1,39 @@
+-- `Cell64::kept` meets its contract, by the two tests against the ends of the reach. Assumes nothing.
+use borrow.Author.Needs.{needs}
+use mathlib.Core.Path.{sym, _∙_}
+use Rattle.whole.proofs.Bits.{tested}
+use Rattle.cell.specs.Steps.{adding}
+use Rattle.cell.proofs.Laws.{room64, clamp-above, clamp-below, clamp-within}
+use Rattle.cell.proofs.Cell64.kept.Statement.{statement}
+use Rattle.cell.proofs.Cell64.kept.Tie as tie
+
+less-requires : tie.Need-less-requires
+less-requires c κs = search needs
+
+mark-requires : tie.Need-mark-requires
+mark-requires c κs = search needs
+
+returns : tie.Need-returns
+unfolding adding
+returns c =
+    let s = c .before in
+    c .mark .ensures ∙ sym (clamp-above room64 (s .before .before .args .self .v) (tested (s .before .less .ensures) (s .if1 .taken)))
+
+less-requires-2 : tie.Need-less-requires-2
+less-requires-2 c κs = search needs
+
+returns-2 : tie.Need-returns-2
+unfolding adding
+returns-2 c =
+    let s = c .before .before in
+    sym (clamp-below room64 (s .before .before .args .self .v) (tested (s .before .less .ensures) (s .if1 .left)) (tested (c .before .less2 .ensures) (c .if2 .taken)))
+
+returns-3 : tie.Need-returns-3
+unfolding adding
+returns-3 c =
+    let s = c .before .before in
+    sym (clamp-within room64 (s .before .before .args .self .v) (tested (s .before .less .ensures) (s .if1 .left)) (tested (c .before .less2 .ensures) (c .if2 .left)))
+
+pub kept-spec : {M : Type 1} → statement M
+kept-spec =
+    tie.close (tie.spec less-requires mark-requires returns less-requires-2 returns-2 returns-3)

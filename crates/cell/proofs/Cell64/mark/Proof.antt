@@ -1,0 +1,12 @@
+-- `Cell64::mark` meets its contract: the number is the mark of the ranges. Assumes nothing.
+use mathlib.Core.Path.{refl}
+use Rattle.cell.specs.Steps.{adding}
+use Rattle.cell.proofs.Cell64.mark.Statement.{statement}
+use Rattle.cell.proofs.Cell64.mark.Tie as tie
+
+returns : tie.Need-returns
+unfolding adding
+returns c = refl
+
+pub mark-spec : {M : Type 1} → statement M
+mark-spec = tie.close (tie.spec returns)
