@@ -42,7 +42,8 @@ more-pointed r p ms g a =
       limit-from = λ m h. ⊎-elim (λ i. a m i .from) (λ i. g .limit m i .from) (List·Memᴰ·append-cases ms h);
       limit-to = λ m h. ⊎-elim (λ i. a m i .to) (λ i. g .limit m i .to) (List·Memᴰ·append-cases ms h);
       link-act = λ k h. g .link k h .act;
-      link-con = λ k h. g .link k h .con }
+      link-con = λ k h. g .link k h .con;
+    }
 
 -- and its weights are bounded
 pub more-weighted : (r : Ranges) (p : Plan) (ms : List Limit) → InRange r p → AllInRange r (p .points) ms
@@ -52,7 +53,8 @@ more-weighted r p ms g a =
       limit-least = λ m h. ⊎-elim (λ i. a m i .least) (λ i. g .limit m i .least) (List·Memᴰ·append-cases ms h);
       limit-most = λ m h. ⊎-elim (λ i. a m i .most) (λ i. g .limit m i .most) (List·Memᴰ·append-cases ms h);
       short-most = in-range-weighted g .short-most;
-      long-most = in-range-weighted g .long-most }
+      long-most = in-range-weighted g .long-most;
+    }
 
 -- ---- the tables of a sequence
 
@@ -81,9 +83,10 @@ pub refusal-of-limits : (r : Ranges) (p : Plan) → InRange r p → {ts rs : Lis
 refusal-of-limits r p g {ts} {strict} {weak} a m =
     let q : Plan = withLimits p ts in
     let gq : Pointed q = more-pointed r p ts g (taken-in-range a) in
-    let tq : Tables q strict weak = sequence-tables r p g a in
-    (uncontrollable-dominated (withLimit q m) (withCells q strict m) (limit-dominates-cells q gq strict weak tq m),
-      uncontrollable-dominated (withCells q strict m) (withLimit q m) (cells-dominate-limit q gq strict weak tq m))
+    let tq : Tables q strict weak = sequence-tables r p g a in (
+      uncontrollable-dominated (withLimit q m) (withCells q strict m) (limit-dominates-cells q gq strict weak tq m),
+      uncontrollable-dominated (withCells q strict m) (withLimit q m) (cells-dominate-limit q gq strict weak tq m),
+    )
 
 -- a limit of the list or one of them
 with-member : {m : Limit} {ts all : List Limit} → AllIn ts all → List·Memᴰ m all → AllIn (m ∷ ts) all
@@ -155,7 +158,7 @@ never-beyond r c p ts rs strict weak g a m i strict′ weak′ t b =
     let h : r .weight * (p .points - 1) ≤ r .reach = reach-holds r p c g in
     ⊎-elim
     (λ n. n (wider (strict′ (b .row) (b .column)) h
-      (strict-reach q strict′ weak′ gq tq (r .weight) wq (b .row) (b .column) (b .row-below) (b .column-below))))
+    (strict-reach q strict′ weak′ gq tq (r .weight) wq (b .row) (b .column) (b .row-below) (b .column-below))))
     (λ n. n (wider (weak′ (b .row) (b .column)) h
-      (open-reach q strict′ weak′ gq tq (r .weight) wq (b .row) (b .column) (b .row-below) (b .column-below))))
+    (open-reach q strict′ weak′ gq tq (r .weight) wq (b .row) (b .column) (b .row-below) (b .column-below))))
     (b .beyond)

@@ -56,20 +56,26 @@ row-limit t x (suc y) {l} m =
     here true e h = absurd (List·Memᴰ·not-nil h)
     here false e h =
         let c : (l .from ≡ x) × (l .to ≡ y) × (t x y ≡ num (l .weight)) = cell-limit x y (t x y) h in
-        let ne : x ≢ y = eqb-no x y e in
-        (record {
-          row-below = omega (arith, c .0);
-          column-below = omega (arith, c .1);
-          off-diagonal = λ i. ne (sym (c .0) ∙ i ∙ c .1);
-          cell = rw (c .0, c .1) (c .2) }, c .0)
+        let ne : x ≢ y = eqb-no x y e in (
+          record {
+            row-below = omega (arith, c .0);
+            column-below = omega (arith, c .1);
+            off-diagonal = λ i. ne (sym (c .0) ∙ i ∙ c .1);
+            cell = rw (c .0, c .1) (c .2);
+          },
+          c .0,
+        )
 
     below : FromCell t (suc x) y l × (l .from ≡ x) → FromCell t (suc x) (suc y) l × (l .from ≡ x)
-    below h =
-        (record {
-          row-below = h .0 .row-below;
-          column-below = omega (arith, h .0 .column-below);
-          off-diagonal = h .0 .off-diagonal;
-          cell = h .0 .cell }, h .1)
+    below h = (
+      record {
+        row-below = h .0 .row-below;
+        column-below = omega (arith, h .0 .column-below);
+        off-diagonal = h .0 .off-diagonal;
+        cell = h .0 .cell;
+      },
+      h .1,
+    )
 
 -- a table's limits are its cells
 pub table-limit : (t : Table) (n m : ℕ) {l : Limit} → List·Memᴰ l (tableLimits t n m) → FromCell t m n l
@@ -83,7 +89,8 @@ table-limit t n (suc x) {l} h = ⊎-elim (λ k. row-limit t x n k .0) (λ k. bel
           row-below = omega (arith, k .row-below);
           column-below = k .column-below;
           off-diagonal = k .off-diagonal;
-          cell = k .cell }
+          cell = k .cell;
+        }
 
 -- every cell off the diagonal that is a number is among a row's limits
 row-has : (t : Table) (x y n : ℕ) (c : ℤ) → y < n → x ≢ y → t x y ≡ num c
@@ -99,7 +106,7 @@ row-has t x y (suc z) c h ne e = by (ℕ-discrete y z) (λ k. row-has t x y z c 
         (rw e (List·Memᴰ·head refl))
 
     by : Dec (y ≡ z) → (y < z → List·Memᴰ (record { from = x; to = y; weight = c }) (rowLimits t x z))
-      → List·Memᴰ (record { from = x; to = y; weight = c }) (cond (eqb x z) [] (cellLimit x z (t x z)) ++ rowLimits t x z)
+        → List·Memᴰ (record { from = x; to = y; weight = c }) (cond (eqb x z) [] (cellLimit x z (t x z)) ++ rowLimits t x z)
     by (yes k) more = Memᴰ·append-left (rowLimits t x z) (first (eqb x z) refl k)
     by (no nk) more = Memᴰ·append-right (cond (eqb x z) [] (cellLimit x z (t x z))) (more (omega arith))
 
@@ -111,7 +118,7 @@ table-has t x y n zero c h k ne e = absurd (not-suc-le-zero h)
 table-has t x y n (suc z) c h k ne e = by (ℕ-discrete x z) (λ l. table-has t x y n z c l k ne e)
   where
     by : Dec (x ≡ z) → (x < z → List·Memᴰ (record { from = x; to = y; weight = c }) (tableLimits t n z))
-      → List·Memᴰ (record { from = x; to = y; weight = c }) (rowLimits t z n ++ tableLimits t n z)
+        → List·Memᴰ (record { from = x; to = y; weight = c }) (rowLimits t z n ++ tableLimits t n z)
     by (yes i) more =
         Memᴰ·append-left (tableLimits t n z)
         (subst (λ (a : ℕ). List·Memᴰ (record { from = x; to = y; weight = c }) (rowLimits t a n)) i (row-has t x y n c k ne e))
@@ -135,7 +142,8 @@ pub dominates-trans : (p q s : Plan) → Dominates p q → Dominates q s → Dom
 dominates-trans p q s h k =
     record {
       links = λ l m. h .links l (k .links l m);
-      given = λ x y w e. weaker (walk-dominated p q h (k .given x y w e .walk)) (k .given x y w e .le) }
+      given = λ x y w e. weaker (walk-dominated p q h (k .given x y w e .walk)) (k .given x y w e .le);
+    }
 
 module _ (p : Plan) (g : Pointed p) (strict weak : Table) (t : Tables p strict weak) (m : Limit) where
   -- the plan with the limit dominates the plan of the cells with the limit: each cell is the total of a walk
@@ -155,7 +163,7 @@ module _ (p : Plan) (g : Pointed p) (strict weak : Table) (t : Tables p strict w
           (t .strict-least (l .from) (l .to) (f .row-below) (f .column-below)))
 
       one : (l : Limit) → List·Memᴰ l (withCells p strict m .limits)
-        → Dominated (Derivable (withLimit p m)) (l .from) (l .to) (l .weight)
+          → Dominated (Derivable (withLimit p m)) (l .from) (l .to) (l .weight)
       one l h =
           ⊎-elim (λ e. exactly (single (edges.given (limit (List·Memᴰ·head e)))))
           (λ k. cell l (table-limit strict (p .points) (p .points) k)) (List·Memᴰ·cases-cons h)
@@ -188,7 +196,8 @@ module _ (p : Plan) (g : Pointed p) (strict weak : Table) (t : Tables p strict w
           record {
             total = pos zero;
             walk = subst (λ (y : ℕ). Walk (Derivable q) x y (pos zero)) e stay;
-            le = subst (λ (c : ℤ). c ≤ℤ l .weight) (sym v) (a .le) }
+            le = subst (λ (c : ℤ). c ≤ℤ l .weight) (sym v) (a .le);
+          }
 
       off-diagonal : (l : Limit) → List·Memᴰ l (p .limits) → l .from ≢ l .to → Dominated (Derivable q) (l .from) (l .to) (l .weight)
       off-diagonal l h ne =
@@ -196,11 +205,12 @@ module _ (p : Plan) (g : Pointed p) (strict weak : Table) (t : Tables p strict w
           record {
             total = a .value;
             walk = single
-              (edges.given
-              (limit
-              (List·Memᴰ·tail
-              (table-has strict (l .from) (l .to) (p .points) (p .points) (a .value) (g .limit-from l h) (g .limit-to l h) ne (a .is)))));
-            le = a .le }
+                (edges.given
+                (limit
+                (List·Memᴰ·tail
+                (table-has strict (l .from) (l .to) (p .points) (p .points) (a .value) (g .limit-from l h) (g .limit-to l h) ne (a .is)))));
+            le = a .le;
+          }
 
       old : (l : Limit) → List·Memᴰ l (p .limits) → Dec (l .from ≡ l .to) → Dominated (Derivable q) (l .from) (l .to) (l .weight)
       old l h (yes e) = on-diagonal l h e
@@ -223,10 +233,11 @@ cells-pointed p strict m g hf ht =
     record {
       some-point = g .some-point;
       limit-from = λ l h.
-        ⊎-elim (λ e. subst (λ (k : Limit). k .from < p .points) (sym e) hf) (λ k. table-limit strict (p .points) (p .points) k .row-below)
-        (List·Memᴰ·cases-cons h);
+          ⊎-elim (λ e. subst (λ (k : Limit). k .from < p .points) (sym e) hf) (λ k. table-limit strict (p .points) (p .points) k .row-below)
+          (List·Memᴰ·cases-cons h);
       limit-to = λ l h.
-        ⊎-elim (λ e. subst (λ (k : Limit). k .to < p .points) (sym e) ht) (λ k. table-limit strict (p .points) (p .points) k .column-below)
-        (List·Memᴰ·cases-cons h);
+          ⊎-elim (λ e. subst (λ (k : Limit). k .to < p .points) (sym e) ht) (λ k. table-limit strict (p .points) (p .points) k .column-below)
+          (List·Memᴰ·cases-cons h);
       link-act = g .link-act;
-      link-con = g .link-con }
+      link-con = g .link-con;
+    }

@@ -18,13 +18,14 @@ pub demand2-of-plans : (r : Ranges) → Coherent r → Demand2OfPlans r
 demand2-of-plans r c =
     record {
       tables-are-closed = λ p strict weak g t.
-        tables-closed r p strict weak (in-range-pointed g) (in-range-weighted g) (reach-holds r p c g) t;
+          tables-closed r p strict weak (in-range-pointed g) (in-range-weighted g) (reach-holds r p c g) t;
       closed-excludes-uncontrollable = λ p strict weak g t u. closed-controllable r p strict weak t (in-range-pointed g) u;
       tables-exclude-uncontrollable = λ p strict weak g t u. tables-controllable p strict weak (in-range-pointed g) t u;
       one-strict-table = λ p strict weak strict′ weak′ t u. tables-unique p strict weak strict′ weak′ t u .strict-same;
       one-open-table = λ p strict weak strict′ weak′ t u. tables-unique p strict weak strict′ weak′ t u .open-same;
       strict-near-zero = λ p strict weak g t. strict-reach p strict weak (in-range-pointed g) t (r .weight) (in-range-weighted g);
-      open-near-zero = λ p strict weak g t. open-reach p strict weak (in-range-pointed g) t (r .weight) (in-range-weighted g) }
+      open-near-zero = λ p strict weak g t. open-reach p strict weak (in-range-pointed g) t (r .weight) (in-range-weighted g);
+    }
 
 pub demand3-of-plans : (r : Ranges) → Coherent r → Demand3OfPlans r
 demand3-of-plans r c =
@@ -33,4 +34,5 @@ demand3-of-plans r c =
       none-refused = none-refused r;
       some-refused = some-refused r;
       refused-again = refused-again r;
-      never-beyond = never-beyond r c }
+      never-beyond = never-beyond r c;
+    }

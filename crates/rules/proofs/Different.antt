@@ -51,7 +51,7 @@ without-member a c [] m = m
 without-member a c (b ∷ l) m = by (ℕ-discrete a b) (λ k. without-member a c l k) m
   where
     by : (d : Dec (a ≡ b)) → (List·Memᴰ c (without a l) → List·Memᴰ c l)
-      → List·Memᴰ c (elim d [ yes e ↦ l | no ne ↦ b ∷ without a l ]) → List·Memᴰ c (b ∷ l)
+        → List·Memᴰ c (elim d [ yes e ↦ l | no ne ↦ b ∷ without a l ]) → List·Memᴰ c (b ∷ l)
     by (yes e) below k = List·Memᴰ·tail k
     by (no ne) below k = ⊎-elim (λ e. List·Memᴰ·head e) (λ h. List·Memᴰ·tail (below h)) (List·Memᴰ·cases-cons k)
 

@@ -41,7 +41,7 @@ pub record Dominates (p q : Plan) : Type 0 where
 module _ (p : Plan) where
   -- Lower from a walk of at most w
   pub lower-walk : {k j : Link} {x y : ℕ} {w : ℤ} → List·Memᴰ k (p .links) → List·Memᴰ j (p .links) → x ≡ k .con → y ≡ j .con
-    → Lowers k j w → Dominated (Derivable p) x y w → Dominated (Derivable p) (k .act) (j .con) (pos (k .short) +ℤ w)
+      → Lowers k j w → Dominated (Derivable p) x y w → Dominated (Derivable p) (k .act) (j .con) (pos (k .short) +ℤ w)
   lower-walk {k} {j} {x} {y} {w} hk hj ex ey l d = from (collapse (d .walk))
     where
       from : Collapsed p x y (d .total) → Dominated (Derivable p) (k .act) (j .con) (pos (k .short) +ℤ w)
@@ -51,11 +51,12 @@ module _ (p : Plan) where
           record {
             total = pos (k .short) +ℤ d .total;
             walk = single (edges.lower hk hj (record { other = l .other; below = omega (ints, d .le, l .below) }) e′);
-            le = plus-mono (≤ℤ-refl (pos (k .short))) (d .le) }
+            le = plus-mono (≤ℤ-refl (pos (k .short))) (d .le);
+          }
 
   -- Upper from a walk of at most v: from the empty walk, the link's shortest edge
   pub upper-walk : {k : Link} {x y : ℕ} {v : ℤ} → List·Memᴰ k (p .links) → y ≡ k .con → Dominated (Derivable p) x y v
-    → Dominated (Derivable p) x (k .act) (upper-weight k v)
+      → Dominated (Derivable p) x (k .act) (upper-weight k v)
   upper-walk {k} {x} {y} {v} hk ey d = from (collapse (d .walk))
     where
       from : Collapsed p x y (d .total) → Dominated (Derivable p) x (k .act) (upper-weight k v)
@@ -63,7 +64,8 @@ module _ (p : Plan) where
           record {
             total = negℤ (pos (k .short));
             walk = subst (λ (a : ℕ). Walk (Derivable p) a (k .act) (negℤ (pos (k .short)))) (sym (e ∙ ey)) (single (edges.given (shortest hk)));
-            le = larger-right (v -ℤ pos (k .long)) (negℤ (pos (k .short))) }
+            le = larger-right (v -ℤ pos (k .long)) (negℤ (pos (k .short)));
+          }
       from (edge e) =
           let e′ : Derivable p x (k .con) (d .total) = subst (λ (b : ℕ). Derivable p x b (d .total)) ey e in
           record { total = upper-weight k (d .total); walk = single (edges.upper hk e′); le = upper-mono k (d .le) }
@@ -112,8 +114,9 @@ pub tables-move : (p q : Plan) → p .points ≡ q .points → Dominates p q →
     → Tables q strict weak
 tables-move p q e h k strict weak t = record {
   strict-least = λ x y hx hy.
-    least-moves (Derivable p) (Derivable q) x y (strict x y) (λ t w. walk-dominated q p k w) (λ t w. walk-dominated p q h w)
-    (t .strict-least x y (subst (λ (n : ℕ). x < n) (sym e) hx) (subst (λ (n : ℕ). y < n) (sym e) hy));
+      least-moves (Derivable p) (Derivable q) x y (strict x y) (λ t w. walk-dominated q p k w) (λ t w. walk-dominated p q h w)
+      (t .strict-least x y (subst (λ (n : ℕ). x < n) (sym e) hx) (subst (λ (n : ℕ). y < n) (sym e) hy));
   open-least = λ x y hx hy.
-    least-moves (Open p) (Open q) x y (weak x y) (λ t w. open-dominated q p k w) (λ t w. open-dominated p q h w)
-    (t .open-least x y (subst (λ (n : ℕ). x < n) (sym e) hx) (subst (λ (n : ℕ). y < n) (sym e) hy)) }
+      least-moves (Open p) (Open q) x y (weak x y) (λ t w. open-dominated q p k w) (λ t w. open-dominated p q h w)
+      (t .open-least x y (subst (λ (n : ℕ). x < n) (sym e) hx) (subst (λ (n : ℕ). y < n) (sym e) hy));
+}

@@ -34,7 +34,8 @@ pub justified-closed : (r : Ranges) (p : Plan) (strict weak : Table) → Pointed
     → Tables p strict weak
 justified-closed r p strict weak g j c = record {
   strict-least = λ x y hx hy. least (strict x y) (j .strict-walk x y hx hy) (λ t k. strict-walk-bound r p strict weak c g hx hy k);
-  open-least = λ x y hx hy. least (weak x y) (j .open-walk x y hx hy) (λ t k. open-walk-bound r p strict weak c g hx hy k) }
+  open-least = λ x y hx hy. least (weak x y) (j .open-walk x y hx hy) (λ t k. open-walk-bound r p strict weak c g hx hy k);
+}
 
 -- a justified negative cell on the open diagonal makes the plan uncontrollable
 pub negative-diagonal : (p : Plan) {x : ℕ} {c : ℤ} → Dominated (Open p) x x c → c <ℤ pos zero → Uncontrollable p
@@ -57,7 +58,8 @@ pub tables-unique : (p : Plan) (strict weak strict′ weak′ : Table) → Table
     → SameTables (p .points) strict weak strict′ weak′
 tables-unique p strict weak strict′ weak′ t u = record {
   strict-same = λ x y hx hy. least-unique (Derivable p) x y (strict x y) (strict′ x y) (t .strict-least x y hx hy) (u .strict-least x y hx hy);
-  open-same = λ x y hx hy. least-unique (Open p) x y (weak x y) (weak′ x y) (t .open-least x y hx hy) (u .open-least x y hx hy) }
+  open-same = λ x y hx hy. least-unique (Open p) x y (weak x y) (weak′ x y) (t .open-least x y hx hy) (u .open-least x y hx hy);
+}
 
 -- a pair with a least total has no closed walk of negative total at its start
 pub no-negative : {E : ℕ → ℕ → ℤ → Type 0} {x : ℕ} {t : ℤ} (c : Cell) → Least E x x c → Walk E x x t → t <ℤ pos zero → ⊥

@@ -49,9 +49,9 @@ unfolding tableOf
 same-list r n t u e b c =
     same-parts (n * n) t u e b
     (λ i h.
-      let s : Spot n i = spot n i h in
-      subst (λ (k : ℕ). getD t k (pos zero) ≡ getD u k (pos zero)) (sym (s .is))
-      (cell-injective (r .mark) (c (s .row) (s .column) (s .row-below) (s .column-below))))
+    let s : Spot n i = spot n i h in
+    subst (λ (k : ℕ). getD t k (pos zero) ≡ getD u k (pos zero)) (sym (s .is))
+    (cell-injective (r .mark) (c (s .row) (s .column) (s .row-below) (s .column-below))))
 
 -- a list is filled with one number in one way
 pub filled-once : {m : ℕ} {c : ℤ} {t u v : List ℤ} → Filled m c t u → Filled m c t v → u ≡ v

@@ -72,7 +72,7 @@ module _ (r : Ranges) (file : Answer) (p : Plan) (g : file ≡ Done → InRange 
 
   -- Judge has one answer
   pub judged-once : {strict weak : List ℤ} {a b : Answer} {s₁ s₂ w₁ w₂ : List ℤ} → Judged r file p strict weak a s₁ w₁
-    → Judged r file p strict weak b s₂ w₂ → SameJudged a b s₁ s₂ w₁ w₂
+      → Judged r file p strict weak b s₂ w₂ → SameJudged a b s₁ s₂ w₁ w₂
   judged-once (Judged.bad-file n₁) (Judged.bad-file n₂) = record { answer = refl; strict = refl; weak = refl }
   judged-once (Judged.bad-file n₁) (Judged.short-room e₂ s₂) = absurd (n₁ e₂)
   judged-once (Judged.bad-file n₁) (Judged.uncontrollable e₂ q₂ u₂ m₂) = absurd (n₁ e₂)
@@ -84,9 +84,10 @@ module _ (r : Ranges) (file : Answer) (p : Plan) (g : file ≡ Done → InRange 
   judged-once (Judged.uncontrollable e₁ q₁ u₁ m₁) (Judged.bad-file n₂) = absurd (n₂ e₁)
   judged-once (Judged.uncontrollable e₁ q₁ u₁ m₁) (Judged.short-room e₂ s₂) = short-or-room s₂ q₁
   judged-once (Judged.uncontrollable e₁ q₁ u₁ m₁) (Judged.uncontrollable e₂ q₂ u₂ m₂) = record {
-      answer = refl;
-      strict = filled-once (m₁ .strict-marked) (m₂ .strict-marked);
-      weak = filled-once (m₁ .open-marked) (m₂ .open-marked) }
+    answer = refl;
+    strict = filled-once (m₁ .strict-marked) (m₂ .strict-marked);
+    weak = filled-once (m₁ .open-marked) (m₂ .open-marked);
+  }
   judged-once (Judged.uncontrollable e₁ q₁ u₁ m₁) (Judged.judged e₂ q₂ t₂) = written-or-uncontrollable e₁ t₂ u₁
   judged-once (Judged.judged e₁ q₁ t₁) (Judged.bad-file n₂) = absurd (n₂ e₁)
   judged-once (Judged.judged e₁ q₁ t₁) (Judged.short-room e₂ s₂) = short-or-room s₂ q₁
@@ -115,7 +116,7 @@ module _ (r : Ranges) (file : Answer) (p : Plan) (g : file ≡ Done → InRange 
   -- ---- Earliest
 
   short-or-times {ℓ} : {X : Type ℓ} {strict weak : List ℤ} (times : List ℤ) → ShortTables p strict weak ⊎ (length times < p .points)
-    → RoomForTables p strict weak → p .points ≤ length times → X
+      → RoomForTables p strict weak → p .points ≤ length times → X
   short-or-times times (inl s) q l = short-or-room s q
   short-or-times times (inr s) q l = absurd (omega arith)
 
@@ -129,17 +130,17 @@ module _ (r : Ranges) (file : Answer) (p : Plan) (g : file ≡ Done → InRange 
 
   -- times are written in one way
   times-once : {strict weak s w times t₁ t₂ : List ℤ} → file ≡ Done → Written r p strict weak s w → TimesOf r p s times t₁
-    → TimesOf r p s times t₂ → t₁ ≡ t₂
+      → TimesOf r p s times t₂ → t₁ ≡ t₂
   times-once {s} {t₁} {t₂} e t a b =
       same-parts (p .points) t₁ t₂ (a .times-kept .length-same ∙ sym (b .times-kept .length-same))
       (λ i h. a .times-kept .beyond-same i h ∙ sym (b .times-kept .beyond-same i h))
       (λ i h.
-        let c : (c : ℤ) × (tableOf r (p .points) s i zero ≡ num c) = start-number (t .tables) (pointed e) i h in
-        a .minus-cell i h (c .0) (c .1) ∙ sym (b .minus-cell i h (c .0) (c .1)))
+      let c : (c : ℤ) × (tableOf r (p .points) s i zero ≡ num c) = start-number (t .tables) (pointed e) i h in
+      a .minus-cell i h (c .0) (c .1) ∙ sym (b .minus-cell i h (c .0) (c .1)))
 
   -- Earliest has one answer
   pub timed-once : {strict weak times : List ℤ} {a b : Answer} {s₁ s₂ w₁ w₂ t₁ t₂ : List ℤ} → Timed r file p strict weak times a s₁ w₁ t₁
-    → Timed r file p strict weak times b s₂ w₂ t₂ → SameTimed a b s₁ s₂ w₁ w₂ t₁ t₂
+      → Timed r file p strict weak times b s₂ w₂ t₂ → SameTimed a b s₁ s₂ w₁ w₂ t₁ t₂
   timed-once {times} (Timed.bad-file n₁) (Timed.bad-file n₂) = record { answer = refl; strict = refl; weak = refl; times = refl }
   timed-once {times} (Timed.bad-file n₁) (Timed.short-room e₂ s₂) = absurd (n₁ e₂)
   timed-once {times} (Timed.bad-file n₁) (Timed.has-links e₂ q₂ l₂ k₂) = absurd (n₁ e₂)
@@ -159,20 +160,22 @@ module _ (r : Ranges) (file : Answer) (p : Plan) (g : file ≡ Done → InRange 
   timed-once {times} (Timed.uncontrollable e₁ q₁ l₁ z₁ u₁ m₁) (Timed.short-room e₂ s₂) = short-or-times times s₂ q₁ l₁
   timed-once {times} (Timed.uncontrollable e₁ q₁ l₁ z₁ u₁ m₁) (Timed.has-links e₂ q₂ l₂ k₂) = absurd (k₂ z₁)
   timed-once {times} (Timed.uncontrollable e₁ q₁ l₁ z₁ u₁ m₁) (Timed.uncontrollable e₂ q₂ l₂ z₂ u₂ m₂) = record {
-      answer = refl;
-      strict = filled-once (m₁ .strict-marked) (m₂ .strict-marked);
-      weak = filled-once (m₁ .open-marked) (m₂ .open-marked);
-      times = refl }
+    answer = refl;
+    strict = filled-once (m₁ .strict-marked) (m₂ .strict-marked);
+    weak = filled-once (m₁ .open-marked) (m₂ .open-marked);
+    times = refl;
+  }
   timed-once {times} (Timed.uncontrollable e₁ q₁ l₁ z₁ u₁ m₁) (Timed.timed e₂ q₂ l₂ z₂ t₂ o₂) = written-or-uncontrollable e₁ t₂ u₁
   timed-once {times} (Timed.timed e₁ q₁ l₁ z₁ t₁ o₁) (Timed.bad-file n₂) = absurd (n₂ e₁)
   timed-once {times} (Timed.timed e₁ q₁ l₁ z₁ t₁ o₁) (Timed.short-room e₂ s₂) = short-or-times times s₂ q₁ l₁
   timed-once {times} (Timed.timed e₁ q₁ l₁ z₁ t₁ o₁) (Timed.has-links e₂ q₂ l₂ k₂) = absurd (k₂ z₁)
   timed-once {times} (Timed.timed e₁ q₁ l₁ z₁ t₁ o₁) (Timed.uncontrollable e₂ q₂ l₂ z₂ u₂ m₂) = written-or-uncontrollable e₁ t₁ u₂
   timed-once {times} (Timed.timed e₁ q₁ l₁ z₁ t₁ o₁) (Timed.timed {times′ = v} e₂ q₂ l₂ z₂ t₂ o₂) = record {
-      answer = refl;
-      strict = written-strict-once t₁ t₂;
-      weak = written-open-once t₁ t₂;
-      times = times-once e₁ t₁ o₁ (subst (λ (s : List ℤ). TimesOf r p s times v) (sym (written-strict-once t₁ t₂)) o₂) }
+    answer = refl;
+    strict = written-strict-once t₁ t₂;
+    weak = written-open-once t₁ t₂;
+    times = times-once e₁ t₁ o₁ (subst (λ (s : List ℤ). TimesOf r p s times v) (sym (written-strict-once t₁ t₂)) o₂);
+  }
 
 -- ---- Add
 
@@ -183,7 +186,7 @@ short-or-scratch scratch (inr s) q l = absurd (omega arith)
 
 module _ (r : Ranges) (file : Answer) (p : Plan) (m : Limit) (g : file ≡ Done → InRange r p) (i : file ≡ Done → LimitInRange r (p .points) m) where
   cells-or-uncontrollable {ℓ} : {X : Type ℓ} (strict : List ℤ) (s w : Table) → file ≡ Done
-    → Tables (withCells p (tableOf r (p .points) strict) m) s w → Uncontrollable (withCells p (tableOf r (p .points) strict) m) → X
+      → Tables (withCells p (tableOf r (p .points) strict) m) s w → Uncontrollable (withCells p (tableOf r (p .points) strict) m) → X
   cells-or-uncontrollable strict s w e t u =
       absurd
       (tables-controllable (withCells p (tableOf r (p .points) strict) m) s w
@@ -191,7 +194,7 @@ module _ (r : Ranges) (file : Answer) (p : Plan) (m : Limit) (g : file ≡ Done 
 
   -- what is beyond in one pair of Add's tables is beyond in the other
   beyond-once {ℓ} : {X : Type ℓ} (strict : List ℤ) (s w s′ w′ : Table) → Tables (withCells p (tableOf r (p .points) strict) m) s w
-    → Tables (withCells p (tableOf r (p .points) strict) m) s′ w′ → Beyond r p s w → (Beyond r p s′ w′ → ⊥) → X
+      → Tables (withCells p (tableOf r (p .points) strict) m) s′ w′ → Beyond r p s w → (Beyond r p s′ w′ → ⊥) → X
   beyond-once strict s w s′ w′ t u b n =
       let same : SameTables (p .points) s w s′ w′ = tables-unique (withCells p (tableOf r (p .points) strict) m) s w s′ w′ t u in
       absurd
@@ -202,14 +205,15 @@ module _ (r : Ranges) (file : Answer) (p : Plan) (m : Limit) (g : file ≡ Done 
         row-below = b .row-below;
         column-below = b .column-below;
         beyond =
-          ⊎-elim
-          (λ h. inl (λ k. h (subst (Within (r .reach)) (sym (same .strict-same (b .row) (b .column) (b .row-below) (b .column-below))) k)))
-          (λ h. inr (λ k. h (subst (Within (r .reach)) (sym (same .open-same (b .row) (b .column) (b .row-below) (b .column-below))) k)))
-          (b .beyond) }))
+            ⊎-elim
+            (λ h. inl (λ k. h (subst (Within (r .reach)) (sym (same .strict-same (b .row) (b .column) (b .row-below) (b .column-below))) k)))
+            (λ h. inr (λ k. h (subst (Within (r .reach)) (sym (same .open-same (b .row) (b .column) (b .row-below) (b .column-below))) k)))
+            (b .beyond);
+      }))
 
   -- Add has one answer
   pub added-once : {strict weak scratch : List ℤ} {a b : Answer} {s₁ s₂ w₁ w₂ c₁ c₂ : List ℤ}
-    → Added r file p m strict weak scratch a s₁ w₁ c₁ → Added r file p m strict weak scratch b s₂ w₂ c₂ → SameAdded a b s₁ s₂ w₁ w₂ c₁ c₂
+      → Added r file p m strict weak scratch a s₁ w₁ c₁ → Added r file p m strict weak scratch b s₂ w₂ c₂ → SameAdded a b s₁ s₂ w₁ w₂ c₁ c₂
   added-once {strict} {scratch} (Added.bad-file n₁) (Added.bad-file n₂) = record { answer = refl; strict = refl; weak = refl; scratch = refl }
   added-once {strict} {scratch} (Added.bad-file n₁) (Added.short-room e₂ s₂) = absurd (n₁ e₂)
   added-once {strict} {scratch} (Added.bad-file n₁) (Added.not-closed e₂ q₂ l₂ x₂ f₂) = absurd (n₁ e₂)
@@ -246,7 +250,8 @@ module _ (r : Ranges) (file : Answer) (p : Plan) (m : Limit) (g : file ≡ Done 
   added-once {strict} {scratch} (Added.added {strict′ = v} {weak′ = w} e₁ q₁ l₁ c₁ t₁ b₁ f₁) (Added.uncontrollable e₂ q₂ l₂ c₂ u₂ f₂) = cells-or-uncontrollable strict (tableOf r (p .points) v) (tableOf r (p .points) w) e₁ (t₁ .tables) u₂
   added-once {strict} {scratch} (Added.added {strict′ = v₁} {weak′ = w₁} e₁ q₁ l₁ c₁ t₁ b₁ f₁) (Added.beyond {strict′ = v₂} {weak′ = w₂} e₂ q₂ l₂ c₂ t₂ b₂ f₂) = beyond-once strict v₂ w₂ (tableOf r (p .points) v₁) (tableOf r (p .points) w₁) t₂ (t₁ .tables) b₂ b₁
   added-once {strict} {scratch} (Added.added e₁ q₁ l₁ c₁ t₁ b₁ f₁) (Added.added e₂ q₂ l₂ c₂ t₂ b₂ f₂) = record {
-      answer = refl;
-      strict = written-strict-once t₁ t₂;
-      weak = written-open-once t₁ t₂;
-      scratch = filled-once f₁ f₂ }
+    answer = refl;
+    strict = written-strict-once t₁ t₂;
+    weak = written-open-once t₁ t₂;
+    scratch = filled-once f₁ f₂;
+  }

@@ -29,14 +29,16 @@ in-range-pointed {p} g = record {
   limit-from = λ m h. g .limit m h .from;
   limit-to = λ m h. g .limit m h .to;
   link-act = λ k h. g .link k h .act;
-  link-con = λ k h. g .link k h .con }
+  link-con = λ k h. g .link k h .con;
+}
 
 pub in-range-weighted : {r : Ranges} {p : Plan} → InRange r p → Weighted (r .weight) p
 in-range-weighted {r} {p} g = record {
   limit-least = λ m h. g .limit m h .least;
   limit-most = λ m h. g .limit m h .most;
   short-most = λ k h. omega (arith, g .link k h .order, g .link k h .most);
-  long-most = λ k h. g .link k h .most }
+  long-most = λ k h. g .link k h .most;
+}
 
 -- both ends of an edge are points of the plan
 pub record Ends (p : Plan) (x y : ℕ) : Type 0 where

@@ -27,7 +27,7 @@ few-bound B {m} {n} h = mul-le-mul-left B (omega arith)
 module _ (B : ℕ) (p : Plan) (g : Pointed p) (b : Weighted B p) where
   -- an open walk lies at least at -B(n - 1), or the plan is uncontrollable
   pub floor : {x y : ℕ} {t : ℤ} → x < p .points → Walk (Open p) x y t
-    → Uncontrollable p ⊎ (negℤ (pos (B * (p .points - 1))) ≤ℤ t)
+      → Uncontrollable p ⊎ (negℤ (pos (B * (p .points - 1))) ≤ℤ t)
   floor {x} {y} {t} hx k =
       ⊎-elim negative short
       (shorten (Basic p) (p .points) ends hx (replaced (λ x y w e. open-expand e) k))
@@ -42,7 +42,8 @@ module _ (B : ℕ) (p : Plan) (g : Pointed p) (b : Weighted B p) where
             at = m .at;
             total = m .total;
             walk = replaced (λ x y w e. single (basic-open e)) (m .walk);
-            negative = m .negative })
+            negative = m .negative;
+          })
 
       short : Short (Basic p) (p .points) x y t → Uncontrollable p ⊎ (negℤ (pos (B * (p .points - 1))) ≤ℤ t)
       short s =
@@ -142,4 +143,5 @@ ceiling B p g b {x} {y} hx k =
     record {
       total = r .total;
       walk = replaced (λ x y w e. single (edges.given e)) (trail-walk (r .trail));
-      le = omega ints }
+      le = omega ints;
+    }

@@ -60,7 +60,7 @@ module _ (p : Plan) (strict weak : Table) (g : Pointed p) (t : Tables p strict w
   -- ---- rules
 
   lower-below : (k j : Link) → List·Memᴰ k (p .links) → List·Memᴰ j (p .links) → j .con ≢ k .con
-    → (c : Cell) → Least (Derivable p) (k .con) (j .con) c → strict (k .act) (j .con) ≤ᶜ lowered k j c
+      → (c : Cell) → Least (Derivable p) (k .con) (j .con) c → strict (k .act) (j .con) ≤ᶜ lowered k j c
   lower-below k j hk hj ne mark h = top (strict (k .act) (j .con))
   lower-below k j hk hj ne (num w) h = by (ltZ w (spread j)) refl
     where
@@ -72,7 +72,7 @@ module _ (p : Plan) (strict weak : Table) (g : Pointed p) (t : Tables p strict w
       by false e = top (strict (k .act) (j .con))
 
   upper-below : (k : Link) → List·Memᴰ k (p .links) → (x : ℕ) → x < p .points
-    → (c : Cell) → Least (Derivable p) x (k .con) c → strict x (k .act) ≤ᶜ uppered k c
+      → (c : Cell) → Least (Derivable p) x (k .con) c → strict x (k .act) ≤ᶜ uppered k c
   upper-below k hk x hx mark h = top (strict x (k .act))
   upper-below k hk x hx (num v) h =
       least-under (Derivable p) x (k .act) (strict x (k .act)) (t .strict-least x (k .act) hx (g .link-act k hk))
@@ -121,21 +121,22 @@ tables-closed r p strict weak g b fits t = record {
   strict-diagonal = λ x hx. least-diagonal (Derivable p) x (strict x x) (t .strict-least x x hx hx);
   open-diagonal = λ x hx. least-diagonal (Open p) x (weak x x) (t .open-least x x hx hx);
   strict-join = λ x y z hx hy hz.
-    least-join (Derivable p) x y z (strict x y) (strict y z) (strict x z) (t .strict-least x y hx hy) (t .strict-least y z hy hz)
-    (t .strict-least x z hx hz);
+      least-join (Derivable p) x y z (strict x y) (strict y z) (strict x z) (t .strict-least x y hx hy) (t .strict-least y z hy hz)
+      (t .strict-least x z hx hz);
   open-join = λ x y z hx hy hz.
-    least-join (Open p) x y z (weak x y) (weak y z) (weak x z) (t .open-least x y hx hy) (t .open-least y z hy hz)
-    (t .open-least x z hx hz);
+      least-join (Open p) x y z (weak x y) (weak y z) (weak x z) (t .open-least x y hx hy) (t .open-least y z hy hz)
+      (t .open-least x z hx hz);
   given = λ x y w e.
-    let h : Ends p x y = given-ends p g e in
-    least-below (Derivable p) x y (strict x y) (t .strict-least x y (h .from) (h .to)) (single (edges.given e));
+      let h : Ends p x y = given-ends p g e in
+      least-below (Derivable p) x y (strict x y) (t .strict-least x y (h .from) (h .to)) (single (edges.given e));
   lower = λ k j hk hj ne.
-    lower-below p strict weak g t k j hk hj ne (strict (k .con) (j .con))
-    (t .strict-least (k .con) (j .con) (g .link-con k hk) (g .link-con j hj));
+      lower-below p strict weak g t k j hk hj ne (strict (k .con) (j .con))
+      (t .strict-least (k .con) (j .con) (g .link-con k hk) (g .link-con j hj));
   upper = λ k hk x hx.
-    upper-below p strict weak g t k hk x hx (strict x (k .con)) (t .strict-least x (k .con) hx (g .link-con k hk));
+      upper-below p strict weak g t k hk x hx (strict x (k .con)) (t .strict-least x (k .con) hx (g .link-con k hk));
   open-strict = λ x y hx hy. open-below p strict weak g t x y hx hy (strict x y) (t .strict-least x y hx hy);
   open-lower-case = λ k hk.
-    least-below (Open p) (k .act) (k .con) (weak (k .act) (k .con))
-    (t .open-least (k .act) (k .con) (g .link-act k hk) (g .link-con k hk))
-    (single (edges.lower-case hk)) }
+      least-below (Open p) (k .act) (k .con) (weak (k .act) (k .con))
+      (t .open-least (k .act) (k .con) (g .link-act k hk) (g .link-con k hk))
+      (single (edges.lower-case hk));
+}

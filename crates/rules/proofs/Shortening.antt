@@ -52,7 +52,8 @@ module _ (E : ℕ → ℕ → ℤ → Type 0) (n : ℕ) where
     trail = subst (λ (a : ℕ). Trail E a z w ps) (sym e) t;
     sum = +ℤ-idl w;
     different = subst (λ (a : ℕ). Different (a ∷ ps)) (sym e) d;
-    below = subst (λ (a : ℕ). Below n (a ∷ ps)) (sym e) b }
+    below = subst (λ (a : ℕ). Below n (a ∷ ps)) (sym e) b;
+  }
 
   -- one edge more before the cut
   later : {x y q z : ℕ} {v w : ℤ} → E q y v → Cut E n y x z w → Cut E n q x z (v +ℤ w)
@@ -64,10 +65,11 @@ module _ (E : ℕ → ℕ → ℤ → Type 0) (n : ℕ) where
     trail = c .trail;
     sum = +ℤ-assoc v (c .first) (c .rest) ∙ ap (λ (a : ℤ). v +ℤ a) (c .sum);
     different = c .different;
-    below = c .below }
+    below = c .below;
+  }
 
   cut : {x y z : ℕ} {w : ℤ} {ps : List ℕ} → Trail E y z w ps → Different (y ∷ ps) → Below n (y ∷ ps) → List·Memᴰ x (y ∷ ps)
-    → Cut E n y x z w
+      → Cut E n y x z w
   cut stop d b m = here (List·Memᴰ·eq-of-singleton m) stop d b
   cut (go e t) d b m = ⊎-elim (λ h. here h (go e t) d b) (λ h. later e (cut t (d .1) (b .1) h)) (List·Memᴰ·cases-cons m)
 
@@ -85,7 +87,8 @@ module _ (E : ℕ → ℕ → ℤ → Type 0) (n : ℕ) where
         trail = c .trail;
         le = omega (ints, h, plus v (c .first), plus (c .first) (c .rest), plus v w, c .sum);
         different = c .different;
-        below = c .below })
+        below = c .below;
+      })
 
   -- an edge before a short trail
   before : {x y z : ℕ} {v w : ℤ} → x < n → E x y v → Short E n y z w → NegativeWalk E ⊎ Short E n x z (v +ℤ w)
@@ -99,7 +102,8 @@ module _ (E : ℕ → ℕ → ℤ → Type 0) (n : ℕ) where
         trail = k .trail;
         le = omega (ints, k .le, h, plus v t, plus v w);
         different = k .different;
-        below = k .below })
+        below = k .below;
+      })
 
       met : List·Memᴰ x (y ∷ s .points) → NegativeWalk E ⊎ Short E n x z (v +ℤ w)
       met m = lift (s .le) (around e (cut (s .trail) (s .different) (s .below) m))
@@ -111,11 +115,12 @@ module _ (E : ℕ → ℕ → ℤ → Type 0) (n : ℕ) where
         trail = go e (s .trail);
         le = omega (ints, s .le, plus v (s .total), plus v w);
         different = (m, s .different);
-        below = (hx, s .below) })
+        below = (hx, s .below);
+      })
 
   -- a walk holds a closed walk of negative total, or is matched by a short trail
   pub shorten : ((x y : ℕ) (w : ℤ) → E x y w → (x < n) × (y < n)) → {x y : ℕ} {w : ℤ} → x < n → Walk E x y w
-    → NegativeWalk E ⊎ Short E n x y w
+      → NegativeWalk E ⊎ Short E n x y w
   shorten ends {x} hx stay =
       inr
       (record {
@@ -124,7 +129,8 @@ module _ (E : ℕ → ℕ → ℤ → Type 0) (n : ℕ) where
         trail = stop;
         le = ≤ℤ-refl (pos zero);
         different = (List·Memᴰ·not-nil, tt);
-        below = (hx, tt) })
+        below = (hx, tt);
+      })
   shorten ends {x} hx (step {y} {v} e k) = ⊎-elim inl (before hx e) (shorten ends (ends x y v e .1) k)
 
 -- a trail of edges of at least -B totals at least -B for each edge

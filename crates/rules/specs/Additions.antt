@@ -44,6 +44,6 @@ withLimits p ms = record { points = p .points; limits = ms ++ p .limits; links =
 pub data Additions (r : Ranges) (p : Plan) : List Limit → List Limit → Table → Table → Type 0 where
   opened : {strict weak : Table} → Tables p strict weak → Additions r p [] [] strict weak
   taken : {ts rs : List Limit} {strict weak strict′ weak′ : Table} {m : Limit} → Additions r p ts rs strict weak
-    → LimitInRange r (p .points) m → Tables (withCells p strict m) strict′ weak′ → Additions r p (m ∷ ts) rs strict′ weak′
+      → LimitInRange r (p .points) m → Tables (withCells p strict m) strict′ weak′ → Additions r p (m ∷ ts) rs strict′ weak′
   refused : {ts rs : List Limit} {strict weak : Table} {m : Limit} → Additions r p ts rs strict weak
-    → LimitInRange r (p .points) m → Uncontrollable (withCells p strict m) → Additions r p ts (m ∷ rs) strict weak
+      → LimitInRange r (p .points) m → Uncontrollable (withCells p strict m) → Additions r p ts (m ∷ rs) strict weak

@@ -53,18 +53,18 @@ pub data Judged (r : Ranges) (file : Answer) (p : Plan) (strict weak : List ℤ)
   bad-file : file ≢ Done → Judged r file p strict weak file strict weak
   short-room : file ≡ Done → ShortTables p strict weak → Judged r file p strict weak ShortRoom strict weak
   uncontrollable : {strict′ weak′ : List ℤ} → file ≡ Done → RoomForTables p strict weak → Uncontrollable p
-    → Marked r p strict weak strict′ weak′ → Judged r file p strict weak NotControllable strict′ weak′
+      → Marked r p strict weak strict′ weak′ → Judged r file p strict weak NotControllable strict′ weak′
   judged : {strict′ weak′ : List ℤ} → file ≡ Done → RoomForTables p strict weak
-    → Written r p strict weak strict′ weak′ → Judged r file p strict weak Done strict′ weak′
+      → Written r p strict weak strict′ weak′ → Judged r file p strict weak Done strict′ weak′
 
 -- Check: the file's code; 9; 12; 0. "Check writes nothing."
 pub data Checked (r : Ranges) (file : Answer) (p : Plan) (strict weak : List ℤ) : Answer → Type 0 where
   bad-file : file ≢ Done → Checked r file p strict weak file
   short-room : file ≡ Done → ShortTables p strict weak → Checked r file p strict weak ShortRoom
   not-closed : file ≡ Done → RoomForTables p strict weak
-    → (Closed r p (tableOf r (p .points) strict) (tableOf r (p .points) weak) → ⊥) → Checked r file p strict weak NotClosed
+      → (Closed r p (tableOf r (p .points) strict) (tableOf r (p .points) weak) → ⊥) → Checked r file p strict weak NotClosed
   closed : file ≡ Done → RoomForTables p strict weak
-    → Closed r p (tableOf r (p .points) strict) (tableOf r (p .points) weak) → Checked r file p strict weak Done
+      → Closed r p (tableOf r (p .points) strict) (tableOf r (p .points) weak) → Checked r file p strict weak Done
 
 -- "for Earliest also n signed 32-bit times"; "time of X is minus the strict cell from X to 0"
 pub record TimesOf (r : Ranges) (p : Plan) (strict times times′ : List ℤ) : Type 0 where
@@ -76,12 +76,12 @@ pub data Timed (r : Ranges) (file : Answer) (p : Plan) (strict weak times : List
   bad-file : file ≢ Done → Timed r file p strict weak times file strict weak times
   short-room : file ≡ Done → ShortTables p strict weak ⊎ (length times < p .points) → Timed r file p strict weak times ShortRoom strict weak times
   has-links : file ≡ Done → RoomForTables p strict weak → p .points ≤ length times → p .links ≢ []
-    → Timed r file p strict weak times HasLinks strict weak times
+      → Timed r file p strict weak times HasLinks strict weak times
   uncontrollable : {strict′ weak′ : List ℤ} → file ≡ Done → RoomForTables p strict weak → p .points ≤ length times → p .links ≡ []
-    → Uncontrollable p → Marked r p strict weak strict′ weak′ → Timed r file p strict weak times NotControllable strict′ weak′ times
+      → Uncontrollable p → Marked r p strict weak strict′ weak′ → Timed r file p strict weak times NotControllable strict′ weak′ times
   timed : {strict′ weak′ times′ : List ℤ} → file ≡ Done → RoomForTables p strict weak → p .points ≤ length times → p .links ≡ []
-    → Written r p strict weak strict′ weak′ → TimesOf r p strict′ times times′
-    → Timed r file p strict weak times Done strict′ weak′ times′
+      → Written r p strict weak strict′ weak′ → TimesOf r p strict′ times times′
+      → Timed r file p strict weak times Done strict′ weak′ times′
 
 -- "for Add also a scratch of 2 x n x n 64-bit cells"
 abbrev pub scratchOf : Plan → ℕ
@@ -101,20 +101,20 @@ pub data Added (r : Ranges) (file : Answer) (p : Plan) (m : Limit) (strict weak 
     : Answer → List ℤ → List ℤ → List ℤ → Type 0 where
   bad-file : file ≢ Done → Added r file p m strict weak scratch file strict weak scratch
   short-room : file ≡ Done → ShortTables p strict weak ⊎ (length scratch < scratchOf p)
-    → Added r file p m strict weak scratch ShortRoom strict weak scratch
+      → Added r file p m strict weak scratch ShortRoom strict weak scratch
   not-closed : {scratch′ : List ℤ} → file ≡ Done → RoomForTables p strict weak → scratchOf p ≤ length scratch
-    → (Closed r p (tableOf r (p .points) strict) (tableOf r (p .points) weak) → ⊥)
-    → Filled (scratchOf p) (pos zero) scratch scratch′ → Added r file p m strict weak scratch NotClosed strict weak scratch′
+      → (Closed r p (tableOf r (p .points) strict) (tableOf r (p .points) weak) → ⊥)
+      → Filled (scratchOf p) (pos zero) scratch scratch′ → Added r file p m strict weak scratch NotClosed strict weak scratch′
   uncontrollable : {scratch′ : List ℤ} → file ≡ Done → RoomForTables p strict weak → scratchOf p ≤ length scratch
-    → Closed r p (tableOf r (p .points) strict) (tableOf r (p .points) weak)
-    → Uncontrollable (withCells p (tableOf r (p .points) strict) m)
-    → Filled (scratchOf p) (pos zero) scratch scratch′ → Added r file p m strict weak scratch NotControllable strict weak scratch′
+      → Closed r p (tableOf r (p .points) strict) (tableOf r (p .points) weak)
+      → Uncontrollable (withCells p (tableOf r (p .points) strict) m)
+      → Filled (scratchOf p) (pos zero) scratch scratch′ → Added r file p m strict weak scratch NotControllable strict weak scratch′
   beyond : {scratch′ : List ℤ} {strict′ weak′ : Table} → file ≡ Done → RoomForTables p strict weak → scratchOf p ≤ length scratch
-    → Closed r p (tableOf r (p .points) strict) (tableOf r (p .points) weak)
-    → Tables (withCells p (tableOf r (p .points) strict) m) strict′ weak′ → Beyond r p strict′ weak′
-    → Filled (scratchOf p) (pos zero) scratch scratch′ → Added r file p m strict weak scratch NotClosed strict weak scratch′
+      → Closed r p (tableOf r (p .points) strict) (tableOf r (p .points) weak)
+      → Tables (withCells p (tableOf r (p .points) strict) m) strict′ weak′ → Beyond r p strict′ weak′
+      → Filled (scratchOf p) (pos zero) scratch scratch′ → Added r file p m strict weak scratch NotClosed strict weak scratch′
   added : {strict′ weak′ scratch′ : List ℤ} → file ≡ Done → RoomForTables p strict weak → scratchOf p ≤ length scratch
-    → Closed r p (tableOf r (p .points) strict) (tableOf r (p .points) weak)
-    → Written r (withCells p (tableOf r (p .points) strict) m) strict weak strict′ weak′
-    → (Beyond r p (tableOf r (p .points) strict′) (tableOf r (p .points) weak′) → ⊥)
-    → Filled (scratchOf p) (pos zero) scratch scratch′ → Added r file p m strict weak scratch Done strict′ weak′ scratch′
+      → Closed r p (tableOf r (p .points) strict) (tableOf r (p .points) weak)
+      → Written r (withCells p (tableOf r (p .points) strict) m) strict weak strict′ weak′
+      → (Beyond r p (tableOf r (p .points) strict′) (tableOf r (p .points) weak′) → ⊥)
+      → Filled (scratchOf p) (pos zero) scratch scratch′ → Added r file p m strict weak scratch Done strict′ weak′ scratch′

@@ -36,9 +36,9 @@ pub data Derivable (p : Plan) : ℕ → ℕ → ℤ → Type 0 where
   given : {x y : ℕ} {w : ℤ} → Given p x y w → Derivable p x y w
   join : {x y z : ℕ} {v w : ℤ} → Derivable p x y v → Derivable p y z w → Derivable p x z (v +ℤ w)
   lower : {k r : Link} {w : ℤ} → List·Memᴰ k (p .links) → List·Memᴰ r (p .links) → Lowers k r w
-    → Derivable p (k .con) (r .con) w → Derivable p (k .act) (r .con) (pos (k .short) +ℤ w)
+      → Derivable p (k .con) (r .con) w → Derivable p (k .act) (r .con) (pos (k .short) +ℤ w)
   upper : {k : Link} {x : ℕ} {v : ℤ} → List·Memᴰ k (p .links)
-    → Derivable p x (k .con) v → Derivable p x (k .act) (upper-weight k v)
+      → Derivable p x (k .con) v → Derivable p x (k .act) (upper-weight k v)
 
 -- "derivable edges and lower-case edges": "For each link there is also a lower-case edge from A to C of weight l."
 pub data Open (p : Plan) : ℕ → ℕ → ℤ → Type 0 where

@@ -36,9 +36,9 @@ pub record Closed (r : Ranges) (p : Plan) (strict weak : Table) : Type 0 where
   pub given : (x y : ℕ) (w : ℤ) → Given p x y w → strict x y ≤ᶜ num w
   -- "or what Lower or Upper yields from strict cells"
   pub lower : (k j : Link) → List·Memᴰ k (p .links) → List·Memᴰ j (p .links) → j .con ≢ k .con
-    → strict (k .act) (j .con) ≤ᶜ lowered k j (strict (k .con) (j .con))
+      → strict (k .act) (j .con) ≤ᶜ lowered k j (strict (k .con) (j .con))
   pub upper : (k : Link) → List·Memᴰ k (p .links) → (x : ℕ) → x < p .points
-    → strict x (k .act) ≤ᶜ uppered k (strict x (k .con))
+      → strict x (k .act) ≤ᶜ uppered k (strict x (k .con))
   -- "no open cell exceeds the strict cell of its pair or the lower-case edge"
   pub open-strict : (x y : ℕ) → x < p .points → y < p .points → weak x y ≤ᶜ strict x y
   pub open-lower-case : (k : Link) → List·Memᴰ k (p .links) → weak (k .act) (k .con) ≤ᶜ num (pos (k .short))

@@ -25,7 +25,8 @@ use Rattle.rules.proofs.Reach.{given-most}
 use Rattle.cell.specs.Steps.{smallerᶜ, Stored, clamped}
 use Rattle.tables.specs.Sweep.{iter, lowerCell, markAll, diagonalAll, limitCell, limitAll, startAll, linkEdges, linkAll, firstStrict, firstOpen}
 use Rattle.tables.proofs.Numbers.{Clamping, above, below, inside as in-reach, clamping, ≤ᶜ-trans, smaller-left}
-use Rattle.tables.proofs.Lowering.{Sound, Lowered, Lowers, lowered-trans, cell-lowered, after-lowering, iter-lowered, iter-keeps}
+use Rattle.tables.specs.Table.{Sound}
+use Rattle.tables.proofs.Lowering.{Lowered, Lowers, lowered-trans, cell-lowered, after-lowering, iter-lowered, iter-keeps}
 use Rattle.tables.proofs.Steps.{LinkPoints}
 use Rattle.tables.proofs.Walked.{Has, Walked, cell-walked, PlanLinks}
 use Rattle.tables.proofs.Settled.{AllLinks}
@@ -50,10 +51,11 @@ marks r (suc m) t h =
       same-length = length-set u m (pos (r .mark)) ∙ w .same-length;
       beyond = λ i k. getD-set-other u m i (pos (r .mark)) (pos zero) (omega arith) ∙ w .beyond i (omega arith);
       all = λ i k.
-        ⊎-elim
-        (λ e. subst (λ (j : ℕ). getD (set u m (pos (r .mark))) j (pos zero) ≡ pos (r .mark)) (sym e)
+          ⊎-elim
+          (λ e. subst (λ (j : ℕ). getD (set u m (pos (r .mark))) j (pos zero) ≡ pos (r .mark)) (sym e)
           (getD-set-same u m (pos (r .mark)) (pos zero) room))
-        (λ e. getD-set-other u m i (pos (r .mark)) (pos zero) (omega arith) ∙ w .all i e) (eq-or-lt-of-le (le-of-suc-le-suc k)) }
+          (λ e. getD-set-other u m i (pos (r .mark)) (pos zero) (omega arith) ∙ w .all i e) (eq-or-lt-of-le (le-of-suc-le-suc k));
+    }
 
 -- the mark's number is read as the mark
 pub mark-cell : (r : Ranges) → cellOf (r .mark) (pos (r .mark)) ≡ mark
@@ -69,12 +71,14 @@ unfolding tableOf
 marks-walked E r n t h =
     let w : AllMark r (n * n) t (markAll r (n * n) t) = marks r (n * n) t h in
     let is : (x y : ℕ) → x < n → y < n → tableOf r n (markAll r (n * n) t) x y ≡ mark =
-      λ x y hx hy. ap (cellOf (r .mark)) (w .all (x * n + y) (inside hx hy)) ∙ mark-cell r in
+    λ x y hx hy. ap (cellOf (r .mark)) (w .all (x * n + y) (inside hx hy)) ∙ mark-cell r in
     record {
       sound = record {
         room = omega (arith, w .same-length);
-        stored = λ x y hx hy. subst (Stored (r .reach)) (sym (is x y hx hy)) tt };
-      has = λ x y hx hy. subst (Has E x y) (sym (is x y hx hy)) tt }
+        stored = λ x y hx hy. subst (Stored (r .reach)) (sym (is x y hx hy)) tt;
+      };
+      has = λ x y hx hy. subst (Has E x y) (sym (is x y hx hy)) tt;
+    }
 
 -- ---- a cell lowered stays low
 
@@ -90,18 +94,18 @@ stored-itself reach {c} lo hi = by (clamping reach c)
 module _ (r : Ranges) (h : Coherent r) (n : ℕ) where
   -- a cell lowered to a number in reach is at most that
   pub cell-below : (x y : ℕ) (c : ℤ) (t : List ℤ) → x < n → y < n → Sound r n t → negℤ (pos (r .reach)) ≤ℤ c → c ≤ℤ pos (r .reach)
-    → tableOf r n (lowerCell r n x y (num c) t) x y ≤ᶜ num c
+      → tableOf r n (lowerCell r n x y (num c) t) x y ≤ᶜ num c
   cell-below x y c t hx hy s lo hi =
       ⊎-elim
       (λ e. subst (λ (d : Cell). d ≤ᶜ num c) (sym (e .1))
-        (≤ᶜ-trans (smallerᶜ (clamped (r .reach) (num c)) (tableOf r n t x y)) (clamped (r .reach) (num c)) (num c)
-        (smaller-left (clamped (r .reach) (num c)) (tableOf r n t x y)) (stored-itself (r .reach) lo hi)))
+      (≤ᶜ-trans (smallerᶜ (clamped (r .reach) (num c)) (tableOf r n t x y)) (clamped (r .reach) (num c)) (num c)
+      (smaller-left (clamped (r .reach) (num c)) (tableOf r n t x y)) (stored-itself (r .reach) lo hi)))
       (λ e. absurd (e .0 (refl, refl))) (after-lowering r h n x y (num c) t s hx hy x y hx hy)
 
   -- what one step brings below a cell stays below it
   pub iter-below : (x y m : ℕ) (c : Cell) (f : ℕ → List ℤ → List ℤ) → x < n → y < n → Lowers r n m f
-    → (i : ℕ) → i < m → ((t : List ℤ) → Sound r n t → tableOf r n (f i t) x y ≤ᶜ c)
-    → (t : List ℤ) → Sound r n t → tableOf r n (iter f m t) x y ≤ᶜ c
+      → (i : ℕ) → i < m → ((t : List ℤ) → Sound r n t → tableOf r n (f i t) x y ≤ᶜ c)
+      → (t : List ℤ) → Sound r n t → tableOf r n (iter f m t) x y ≤ᶜ c
   iter-below x y zero c f hx hy l i hi k t s = absurd (not-suc-le-zero hi)
   iter-below x y (suc m) c f hx hy l i hi k t s =
       let l′ : Lowers r n m f = λ j q. l j (omega arith) in
@@ -110,7 +114,7 @@ module _ (r : Ranges) (h : Coherent r) (n : ℕ) where
       ⊎-elim
       (λ e. subst (λ (j : ℕ). tableOf r n (f j u) x y ≤ᶜ c) e (k u su))
       (λ e. ≤ᶜ-trans (tableOf r n (f m u) x y) (tableOf r n u x y) c (l m (omega arith) u su .down x y hx hy)
-        (iter-below x y m c f hx hy l′ i e k t s))
+      (iter-below x y m c f hx hy l′ i e k t s))
       (eq-or-lt-of-le (le-of-suc-le-suc hi))
 
 -- ---- the parts of the first tables
@@ -139,7 +143,7 @@ module _ (p : Plan) (r : Ranges) (h : Coherent r) (g : Pointed p) (b : Weighted 
       iter-lowered r (p .points) (p .points) (λ x. lowerCell r (p .points) x x (num (pos zero))) diagonal-lowers t s
 
   pub diagonal-below : (t : List ℤ) → Sound r (p .points) t → (x : ℕ) → x < p .points
-    → tableOf r (p .points) (diagonalAll r (p .points) t) x x ≤ᶜ num (pos zero)
+      → tableOf r (p .points) (diagonalAll r (p .points) t) x x ≤ᶜ num (pos zero)
   unfolding diagonalAll
   diagonal-below t s x hx =
       iter-below r h (p .points) x x (p .points) (num (pos zero)) (λ x. lowerCell r (p .points) x x (num (pos zero))) hx hx diagonal-lowers
@@ -155,7 +159,7 @@ module _ (p : Plan) (r : Ranges) (h : Coherent r) (g : Pointed p) (b : Weighted 
   start-walked t w =
       iter-keeps (Walked (Derivable p) r (p .points)) (p .points) (λ x. lowerCell r (p .points) x zero (num (pos zero)))
       (λ x hx u k.
-        cell-walked (Derivable p) r h (p .points) x zero (num (pos zero)) u hx (g .some-point) (exactly (single (edges.given (edges.start hx)))) k)
+      cell-walked (Derivable p) r h (p .points) x zero (num (pos zero)) u hx (g .some-point) (exactly (single (edges.given (edges.start hx)))) k)
       t w
 
   pub start-lowered : (t : List ℤ) → Sound r (p .points) t → Lowered r (p .points) t (startAll r (p .points) t)
@@ -164,7 +168,7 @@ module _ (p : Plan) (r : Ranges) (h : Coherent r) (g : Pointed p) (b : Weighted 
       iter-lowered r (p .points) (p .points) (λ x. lowerCell r (p .points) x zero (num (pos zero))) start-lowers t s
 
   pub start-below : (t : List ℤ) → Sound r (p .points) t → (x : ℕ) → x < p .points
-    → tableOf r (p .points) (startAll r (p .points) t) x zero ≤ᶜ num (pos zero)
+      → tableOf r (p .points) (startAll r (p .points) t) x zero ≤ᶜ num (pos zero)
   unfolding startAll
   start-below t s x hx =
       iter-below r h (p .points) x zero (p .points) (num (pos zero)) (λ x. lowerCell r (p .points) x zero (num (pos zero))) hx (g .some-point)
@@ -187,14 +191,14 @@ module _ (p : Plan) (r : Ranges) (h : Coherent r) (g : Pointed p) (b : Weighted 
         (g .limit-to (limit i) (a .member i hi)) s
 
     pub limit-walked : (t : List ℤ) → Walked (Derivable p) r (p .points) t
-      → Walked (Derivable p) r (p .points) (limitAll r (p .points) limit count t)
+        → Walked (Derivable p) r (p .points) (limitAll r (p .points) limit count t)
     unfolding limitAll limitCell
     limit-walked t w =
         iter-keeps (Walked (Derivable p) r (p .points)) count (λ i. limitCell r (p .points) (limit i))
         (λ i hi u k.
-          cell-walked (Derivable p) r h (p .points) (limit i .from) (limit i .to) (num (limit i .weight)) u
-          (g .limit-from (limit i) (a .member i hi)) (g .limit-to (limit i) (a .member i hi))
-          (exactly (single (edges.given (edges.limit (a .member i hi))))) k)
+        cell-walked (Derivable p) r h (p .points) (limit i .from) (limit i .to) (num (limit i .weight)) u
+        (g .limit-from (limit i) (a .member i hi)) (g .limit-to (limit i) (a .member i hi))
+        (exactly (single (edges.given (edges.limit (a .member i hi))))) k)
         t w
 
     pub limit-lowered : (t : List ℤ) → Sound r (p .points) t → Lowered r (p .points) t (limitAll r (p .points) limit count t)
@@ -202,25 +206,25 @@ module _ (p : Plan) (r : Ranges) (h : Coherent r) (g : Pointed p) (b : Weighted 
     limit-lowered t s = iter-lowered r (p .points) count (λ i. limitCell r (p .points) (limit i)) limit-lowers t s
 
     pub limit-below : (t : List ℤ) → Sound r (p .points) t → (m : Limit) → List·Memᴰ m (p .limits)
-      → tableOf r (p .points) (limitAll r (p .points) limit count t) (m .from) (m .to) ≤ᶜ num (m .weight)
+        → tableOf r (p .points) (limitAll r (p .points) limit count t) (m .from) (m .to) ≤ᶜ num (m .weight)
     unfolding limitAll limitCell
     limit-below t s m k =
         iter-below r h (p .points) (m .from) (m .to) count (num (m .weight)) (λ i. limitCell r (p .points) (limit i)) (g .limit-from m k)
         (g .limit-to m k) limit-lowers (a .index m k) (a .index-below m k)
         (λ u su.
-          subst (λ (l : Limit). tableOf r (p .points) (limitCell r (p .points) l u) (m .from) (m .to) ≤ᶜ num (m .weight)) (sym (a .index-is m k))
-          (cell-below r h (p .points) (m .from) (m .to) (m .weight) u (g .limit-from m k) (g .limit-to m k) su
-          (in-reach-low (m .from) (m .to) (m .weight) (edges.limit k)) (in-reach-high (m .from) (m .to) (m .weight) (edges.limit k)))) t s
+        subst (λ (l : Limit). tableOf r (p .points) (limitCell r (p .points) l u) (m .from) (m .to) ≤ᶜ num (m .weight)) (sym (a .index-is m k))
+        (cell-below r h (p .points) (m .from) (m .to) (m .weight) u (g .limit-from m k) (g .limit-to m k) su
+        (in-reach-low (m .from) (m .to) (m .weight) (edges.limit k)) (in-reach-high (m .from) (m .to) (m .weight) (edges.limit k)))) t s
 
   -- links
   module _ (link : ℕ → Link) (count : ℕ) (a : AllLinks p link count) where
     edges-lowered : (k : Link) → List·Memᴰ k (p .links) → (t : List ℤ) → Sound r (p .points) t
-      → Lowered r (p .points) t (linkEdges r (p .points) k t)
+        → Lowered r (p .points) t (linkEdges r (p .points) k t)
     unfolding linkEdges
     edges-lowered k m t s =
         let u : List ℤ = lowerCell r (p .points) (k .act) (k .con) (num (pos (k .long))) t in
         let first : Lowered r (p .points) t u =
-          cell-lowered r h (p .points) (k .act) (k .con) (num (pos (k .long))) t (g .link-act k m) (g .link-con k m) s in
+        cell-lowered r h (p .points) (k .act) (k .con) (num (pos (k .long))) t (g .link-act k m) (g .link-con k m) s in
         lowered-trans r (p .points) t u (linkEdges r (p .points) k t) first
         (cell-lowered r h (p .points) (k .con) (k .act) (num (negℤ (pos (k .short)))) u (g .link-con k m) (g .link-act k m) (first .sound))
 
@@ -228,17 +232,17 @@ module _ (p : Plan) (r : Ranges) (h : Coherent r) (g : Pointed p) (b : Weighted 
     link-lowers i hi t s = edges-lowered (link i) (a .links .member i hi) t s
 
     pub link-walked : (t : List ℤ) → Walked (Derivable p) r (p .points) t
-      → Walked (Derivable p) r (p .points) (linkAll r (p .points) link count t)
+        → Walked (Derivable p) r (p .points) (linkAll r (p .points) link count t)
     unfolding linkAll linkEdges
     link-walked t w =
         iter-keeps (Walked (Derivable p) r (p .points)) count (λ i. linkEdges r (p .points) (link i))
         (λ i hi u k.
-          let m : List·Memᴰ (link i) (p .links) = a .links .member i hi in
-          cell-walked (Derivable p) r h (p .points) (link i .con) (link i .act) (num (negℤ (pos (link i .short))))
-          (lowerCell r (p .points) (link i .act) (link i .con) (num (pos (link i .long))) u) (g .link-con (link i) m) (g .link-act (link i) m)
-          (exactly (single (edges.given (edges.shortest m))))
-          (cell-walked (Derivable p) r h (p .points) (link i .act) (link i .con) (num (pos (link i .long))) u (g .link-act (link i) m)
-          (g .link-con (link i) m) (exactly (single (edges.given (edges.longest m)))) k))
+        let m : List·Memᴰ (link i) (p .links) = a .links .member i hi in
+        cell-walked (Derivable p) r h (p .points) (link i .con) (link i .act) (num (negℤ (pos (link i .short))))
+        (lowerCell r (p .points) (link i .act) (link i .con) (num (pos (link i .long))) u) (g .link-con (link i) m) (g .link-act (link i) m)
+        (exactly (single (edges.given (edges.shortest m))))
+        (cell-walked (Derivable p) r h (p .points) (link i .act) (link i .con) (num (pos (link i .long))) u (g .link-act (link i) m)
+        (g .link-con (link i) m) (exactly (single (edges.given (edges.longest m)))) k))
         t w
 
     pub link-lowered : (t : List ℤ) → Sound r (p .points) t → Lowered r (p .points) t (linkAll r (p .points) link count t)
@@ -246,36 +250,36 @@ module _ (p : Plan) (r : Ranges) (h : Coherent r) (g : Pointed p) (b : Weighted 
     link-lowered t s = iter-lowered r (p .points) count (λ i. linkEdges r (p .points) (link i)) link-lowers t s
 
     pub longest-below : (t : List ℤ) → Sound r (p .points) t → (k : Link) → List·Memᴰ k (p .links)
-      → tableOf r (p .points) (linkAll r (p .points) link count t) (k .act) (k .con) ≤ᶜ num (pos (k .long))
+        → tableOf r (p .points) (linkAll r (p .points) link count t) (k .act) (k .con) ≤ᶜ num (pos (k .long))
     unfolding linkAll linkEdges
     longest-below t s k m =
         iter-below r h (p .points) (k .act) (k .con) count (num (pos (k .long))) (λ i. linkEdges r (p .points) (link i)) (g .link-act k m)
         (g .link-con k m) link-lowers (a .index k m) (a .index-below k m)
         (λ u su.
-          subst (λ (l : Link). tableOf r (p .points) (linkEdges r (p .points) l u) (k .act) (k .con) ≤ᶜ num (pos (k .long))) (sym (a .index-is k m))
-          (let v : List ℤ = lowerCell r (p .points) (k .act) (k .con) (num (pos (k .long))) u in
-          let first : Lowered r (p .points) u v =
-            cell-lowered r h (p .points) (k .act) (k .con) (num (pos (k .long))) u (g .link-act k m) (g .link-con k m) su in
-          let second : Lowered r (p .points) v (linkEdges r (p .points) k u) =
-            cell-lowered r h (p .points) (k .con) (k .act) (num (negℤ (pos (k .short)))) v (g .link-con k m) (g .link-act k m) (first .sound) in
-          ≤ᶜ-trans (tableOf r (p .points) (linkEdges r (p .points) k u) (k .act) (k .con)) (tableOf r (p .points) v (k .act) (k .con))
-          (num (pos (k .long))) (second .down (k .act) (k .con) (g .link-act k m) (g .link-con k m))
-          (cell-below r h (p .points) (k .act) (k .con) (pos (k .long)) u (g .link-act k m) (g .link-con k m) su
-          (in-reach-low (k .act) (k .con) (pos (k .long)) (edges.longest m)) (in-reach-high (k .act) (k .con) (pos (k .long)) (edges.longest m)))))
+        subst (λ (l : Link). tableOf r (p .points) (linkEdges r (p .points) l u) (k .act) (k .con) ≤ᶜ num (pos (k .long))) (sym (a .index-is k m))
+        (let v : List ℤ = lowerCell r (p .points) (k .act) (k .con) (num (pos (k .long))) u in
+        let first : Lowered r (p .points) u v =
+        cell-lowered r h (p .points) (k .act) (k .con) (num (pos (k .long))) u (g .link-act k m) (g .link-con k m) su in
+        let second : Lowered r (p .points) v (linkEdges r (p .points) k u) =
+        cell-lowered r h (p .points) (k .con) (k .act) (num (negℤ (pos (k .short)))) v (g .link-con k m) (g .link-act k m) (first .sound) in
+        ≤ᶜ-trans (tableOf r (p .points) (linkEdges r (p .points) k u) (k .act) (k .con)) (tableOf r (p .points) v (k .act) (k .con))
+        (num (pos (k .long))) (second .down (k .act) (k .con) (g .link-act k m) (g .link-con k m))
+        (cell-below r h (p .points) (k .act) (k .con) (pos (k .long)) u (g .link-act k m) (g .link-con k m) su
+        (in-reach-low (k .act) (k .con) (pos (k .long)) (edges.longest m)) (in-reach-high (k .act) (k .con) (pos (k .long)) (edges.longest m)))))
         t s
 
     pub shortest-below : (t : List ℤ) → Sound r (p .points) t → (k : Link) → List·Memᴰ k (p .links)
-      → tableOf r (p .points) (linkAll r (p .points) link count t) (k .con) (k .act) ≤ᶜ num (negℤ (pos (k .short)))
+        → tableOf r (p .points) (linkAll r (p .points) link count t) (k .con) (k .act) ≤ᶜ num (negℤ (pos (k .short)))
     unfolding linkAll linkEdges
     shortest-below t s k m =
         iter-below r h (p .points) (k .con) (k .act) count (num (negℤ (pos (k .short)))) (λ i. linkEdges r (p .points) (link i)) (g .link-con k m)
         (g .link-act k m) link-lowers (a .index k m) (a .index-below k m)
         (λ u su.
-          subst (λ (l : Link). tableOf r (p .points) (linkEdges r (p .points) l u) (k .con) (k .act) ≤ᶜ num (negℤ (pos (k .short))))
-          (sym (a .index-is k m))
-          (cell-below r h (p .points) (k .con) (k .act) (negℤ (pos (k .short)))
-          (lowerCell r (p .points) (k .act) (k .con) (num (pos (k .long))) u) (g .link-con k m) (g .link-act k m)
-          (cell-lowered r h (p .points) (k .act) (k .con) (num (pos (k .long))) u (g .link-act k m) (g .link-con k m) su .sound)
-          (in-reach-low (k .con) (k .act) (negℤ (pos (k .short))) (edges.shortest m))
-          (in-reach-high (k .con) (k .act) (negℤ (pos (k .short))) (edges.shortest m))))
+        subst (λ (l : Link). tableOf r (p .points) (linkEdges r (p .points) l u) (k .con) (k .act) ≤ᶜ num (negℤ (pos (k .short))))
+        (sym (a .index-is k m))
+        (cell-below r h (p .points) (k .con) (k .act) (negℤ (pos (k .short)))
+        (lowerCell r (p .points) (k .act) (k .con) (num (pos (k .long))) u) (g .link-con k m) (g .link-act k m)
+        (cell-lowered r h (p .points) (k .act) (k .con) (num (pos (k .long))) u (g .link-act k m) (g .link-con k m) su .sound)
+        (in-reach-low (k .con) (k .act) (negℤ (pos (k .short))) (edges.shortest m))
+        (in-reach-high (k .con) (k .act) (negℤ (pos (k .short))) (edges.shortest m))))
         t s

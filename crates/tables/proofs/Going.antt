@@ -20,7 +20,8 @@ use Rattle.rules.proofs.Justified.{negative-diagonal}
 use Rattle.tables.specs.Sweep.{markAll, diagonalAll, limitAll, startAll, linkAll, firstStrict, firstOpen, sweepStrict, sweepOpen}
 use Rattle.tables.specs.Fair.{Fair, Unfair, low, negative}
 use Rattle.tables.proofs.Numbers.{≤ᶜ-trans, ≤ᶜ-antisym}
-use Rattle.tables.proofs.Lowering.{Sound, Lowered, lowered-trans}
+use Rattle.tables.specs.Table.{Sound}
+use Rattle.tables.proofs.Lowering.{Lowered, lowered-trans}
 use Rattle.tables.proofs.Steps.{strict-lowers, open-sweep-lowers}
 use Rattle.tables.proofs.Walked.{Has, has-open, Walked, strict-walked, open-sweep-walked}
 use Rattle.tables.proofs.Settled.{Still, AllLinks, low-uncontrollable, still-tables}
@@ -127,17 +128,18 @@ module _ (p : Plan) (r : Ranges) (h : Coherent r) (g : Pointed p) (b : Weighted 
 
   -- the sweeps start
   pub first-going : (strict weak : List ℤ) → p .points * p .points ≤ length strict → p .points * p .points ≤ length weak
-    → Going p r (firstStrict r (p .points) limit limits link links strict) (firstOpen r (p .points) weak)
+      → Going p r (firstStrict r (p .points) limit limits link links strict) (firstOpen r (p .points) weak)
   unfolding firstStrict firstOpen t₁ t₂ t₃ t₄ t₅
   first-going strict weak sr wr =
       let open-marks : Walked (Open p) r (p .points) (markAll r (p .points * p .points) weak) =
-        marks-walked (Open p) r (p .points) weak wr in
+      marks-walked (Open p) r (p .points) weak wr in
       record {
         strict-walks = w₅ strict sr;
         open-walks = diagonal-walked p r h g b (Open p) (markAll r (p .points * p .points) weak) open-marks;
         given-below = below₅ strict sr;
         strict-diagonal = diagonal₅ strict sr;
-        open-diagonal = diagonal-below p r h g b (markAll r (p .points * p .points) weak) (open-marks .sound) }
+        open-diagonal = diagonal-below p r h g b (markAll r (p .points * p .points) weak) (open-marks .sound);
+      }
 
 -- ---- a sweep
 
@@ -153,7 +155,7 @@ module _ (p : Plan) (r : Ranges) (h : Coherent r) (g : Pointed p) (link : ℕ �
 
   -- after a sweep they stand as before it
   pub going-on : Going p r (sweepStrict r (p .points) link links strict)
-    (sweepOpen r (p .points) link links (sweepStrict r (p .points) link links strict) weak)
+      (sweepOpen r (p .points) link links (sweepStrict r (p .points) link links strict) weak)
   going-on =
       let u : List ℤ = sweepStrict r (p .points) link links strict in
       let v : List ℤ = sweepOpen r (p .points) link links u weak in
@@ -162,15 +164,16 @@ module _ (p : Plan) (r : Ranges) (h : Coherent r) (g : Pointed p) (link : ℕ �
         strict-walks = su;
         open-walks = open-sweep-walked p r h link links (ak .links) u weak su (s .open-walks);
         given-below = λ x y w e.
-          let q : Ends p x y = given-ends p g e in
-          ≤ᶜ-trans (tableOf r (p .points) u x y) (tableOf r (p .points) strict x y) (num w)
-          (going-strict-lowered .down x y (q .from) (q .to)) (s .given-below x y w e);
+            let q : Ends p x y = given-ends p g e in
+            ≤ᶜ-trans (tableOf r (p .points) u x y) (tableOf r (p .points) strict x y) (num w)
+            (going-strict-lowered .down x y (q .from) (q .to)) (s .given-below x y w e);
         strict-diagonal = λ x hx.
-          ≤ᶜ-trans (tableOf r (p .points) u x x) (tableOf r (p .points) strict x x) (num (pos zero)) (going-strict-lowered .down x x hx hx)
-          (s .strict-diagonal x hx);
+            ≤ᶜ-trans (tableOf r (p .points) u x x) (tableOf r (p .points) strict x x) (num (pos zero)) (going-strict-lowered .down x x hx hx)
+            (s .strict-diagonal x hx);
         open-diagonal = λ x hx.
-          ≤ᶜ-trans (tableOf r (p .points) v x x) (tableOf r (p .points) weak x x) (num (pos zero)) (going-open-lowered u .down x x hx hx)
-          (s .open-diagonal x hx) }
+            ≤ᶜ-trans (tableOf r (p .points) v x x) (tableOf r (p .points) weak x x) (num (pos zero)) (going-open-lowered u .down x x hx hx)
+            (s .open-diagonal x hx);
+      }
 
 -- ---- how they end
 
@@ -178,7 +181,7 @@ module _ (p : Plan) (r : Ranges) (h : Coherent r) (g : Pointed p) (b : Weighted 
     (link : ℕ → Link) (links : ℕ) (ak : AllLinks p link links) (strict weak : List ℤ) (s : Going p r strict weak) where
   -- a sweep that changed nothing, and two fair tables: these are the plan's tables
   pub going-ends : sweepStrict r (p .points) link links strict ≡ strict → sweepOpen r (p .points) link links strict weak ≡ weak
-    → Fair r (p .points) strict → Fair r (p .points) weak → Tables p (tableOf r (p .points) strict) (tableOf r (p .points) weak)
+      → Fair r (p .points) strict → Fair r (p .points) weak → Tables p (tableOf r (p .points) strict) (tableOf r (p .points) weak)
   going-ends se we sf wf =
       still-tables p r h g b few link links ak strict weak
       (record {
@@ -189,14 +192,15 @@ module _ (p : Plan) (r : Ranges) (h : Coherent r) (g : Pointed p) (b : Weighted 
         strict-within = sf .within;
         open-within = wf .within;
         strict-zero = λ x hx.
-          ≤ᶜ-antisym (tableOf r (p .points) strict x x) (num (pos zero)) (s .strict-diagonal x hx) (sf .diagonal x hx);
+            ≤ᶜ-antisym (tableOf r (p .points) strict x x) (num (pos zero)) (s .strict-diagonal x hx) (sf .diagonal x hx);
         open-zero = λ x hx.
-          ≤ᶜ-antisym (tableOf r (p .points) weak x x) (num (pos zero)) (s .open-diagonal x hx) (wf .diagonal x hx);
-        given-below = s .given-below })
+            ≤ᶜ-antisym (tableOf r (p .points) weak x x) (num (pos zero)) (s .open-diagonal x hx) (wf .diagonal x hx);
+        given-below = s .given-below;
+      })
 
   -- an unfair table, each cell of which has its open walk: the plan is uncontrollable
   unfair-walk : (t : List ℤ) → ((x y : ℕ) → x < p .points → y < p .points → Has (Open p) x y (tableOf r (p .points) t x y))
-    → Unfair r (p .points) t → Uncontrollable p
+      → Unfair r (p .points) t → Uncontrollable p
   unfair-walk t has (low {x} {y} {c} hx hy e lo) =
       low-uncontrollable p r h g b few link links ak x y c hx (subst (Has (Open p) x y) e (has x y hx hy)) lo
   unfair-walk t has (negative {x} {c} hx e lo) = negative-diagonal p (subst (Has (Open p) x x) e (has x x hx hx)) lo

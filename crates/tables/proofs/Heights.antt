@@ -16,7 +16,8 @@ use Rattle.rules.proofs.Lists.{same-list}
 use Rattle.rules.specs.Cells.{Cell, mark, num, _≤ᶜ_, cellOf, tableOf}
 use Rattle.cell.specs.Steps.{Stored}
 use Rattle.tables.specs.Sweep.{height, heights}
-use Rattle.tables.proofs.Lowering.{Sound, Lowered}
+use Rattle.tables.specs.Table.{Sound}
+use Rattle.tables.proofs.Lowering.{Lowered}
 
 -- a smaller cell stands no higher
 pub height-mono : (reach : ℕ) (c d : Cell) → Stored reach c → Stored reach d → c ≤ᶜ d → height reach c ≤ height reach d
@@ -35,8 +36,8 @@ height-same reach (num a) mark s u h e =
     absurd (omega (ints, s .0, s .1, plus a (pos (suc reach)), parts (a +ℤ pos (suc reach))))
 height-same reach (num a) (num b) s u h e =
     let low : b ≤ℤ a =
-      omega
-      (ints, s .0, u .0, plus a (pos (suc reach)), plus b (pos (suc reach)), parts (a +ℤ pos (suc reach)), parts (b +ℤ pos (suc reach))) in
+    omega
+    (ints, s .0, u .0, plus a (pos (suc reach)), plus b (pos (suc reach)), parts (a +ℤ pos (suc reach)), parts (b +ℤ pos (suc reach))) in
     ap num (omega ints)
 
 -- the cells of two lists, by their index: stored, and none above the other
@@ -50,7 +51,8 @@ fewer r m u t h =
     record {
       above-stored = λ i k. h .above-stored i (omega arith);
       below-stored = λ i k. h .below-stored i (omega arith);
-      below = λ i k. h .below i (omega arith) }
+      below = λ i k. h .below i (omega arith);
+    }
 
 under-heights : (r : Ranges) (m : ℕ) (u t : List ℤ) → Under r m u t → heights r m u ≤ heights r m t
 unfolding heights
@@ -60,7 +62,7 @@ under-heights r (suc m) u t h =
     let c : Cell = cellOf (r .mark) (getD u m (pos zero)) in
     let d : Cell = cellOf (r .mark) (getD t m (pos zero)) in
     let k : height (r .reach) c ≤ height (r .reach) d =
-      height-mono (r .reach) c d (h .below-stored m l) (h .above-stored m l) (h .below m l) in
+    height-mono (r .reach) c d (h .below-stored m l) (h .above-stored m l) (h .below m l) in
     omega (arith, under-heights r m u t (fewer r m u t h))
 
 under-same : (r : Ranges) (m : ℕ) (u t : List ℤ) → Under r m u t → heights r m t ≤ heights r m u
@@ -72,12 +74,12 @@ under-same r (suc m) u t h e i k =
     let c : Cell = cellOf (r .mark) (getD u m (pos zero)) in
     let d : Cell = cellOf (r .mark) (getD t m (pos zero)) in
     let q : height (r .reach) c ≤ height (r .reach) d =
-      height-mono (r .reach) c d (h .below-stored m l) (h .above-stored m l) (h .below m l) in
+    height-mono (r .reach) c d (h .below-stored m l) (h .above-stored m l) (h .below m l) in
     let less : heights r m u ≤ heights r m t = under-heights r m u t (fewer r m u t h) in
     ⊎-elim
     (λ j.
-      subst (λ (o : ℕ). cellOf (r .mark) (getD u o (pos zero)) ≡ cellOf (r .mark) (getD t o (pos zero))) (sym j)
-      (height-same (r .reach) c d (h .below-stored m l) (h .above-stored m l) (h .below m l) (omega (arith, e, q, less))))
+    subst (λ (o : ℕ). cellOf (r .mark) (getD u o (pos zero)) ≡ cellOf (r .mark) (getD t o (pos zero))) (sym j)
+    (height-same (r .reach) c d (h .below-stored m l) (h .above-stored m l) (h .below m l) (omega (arith, e, q, less))))
     (λ j. under-same r m u t (fewer r m u t h) (omega (arith, e, q, less)) i j) (eq-or-lt-of-le (le-of-suc-le-suc k))
 
 module _ (r : Ranges) (n : ℕ) (t u : List ℤ) (s : Sound r n t) (l : Lowered r n t u) where
@@ -86,17 +88,18 @@ module _ (r : Ranges) (n : ℕ) (t u : List ℤ) (s : Sound r n t) (l : Lowered 
   by-index =
       record {
         above-stored = λ i k.
-          let a : Spot n i = spot n i k in
-          subst (λ (j : ℕ). Stored (r .reach) (cellOf (r .mark) (getD t j (pos zero)))) (sym (a .is))
-          (s .stored (a .row) (a .column) (a .row-below) (a .column-below));
+            let a : Spot n i = spot n i k in
+            subst (λ (j : ℕ). Stored (r .reach) (cellOf (r .mark) (getD t j (pos zero)))) (sym (a .is))
+            (s .stored (a .row) (a .column) (a .row-below) (a .column-below));
         below-stored = λ i k.
-          let a : Spot n i = spot n i k in
-          subst (λ (j : ℕ). Stored (r .reach) (cellOf (r .mark) (getD u j (pos zero)))) (sym (a .is))
-          (l .sound .stored (a .row) (a .column) (a .row-below) (a .column-below));
+            let a : Spot n i = spot n i k in
+            subst (λ (j : ℕ). Stored (r .reach) (cellOf (r .mark) (getD u j (pos zero)))) (sym (a .is))
+            (l .sound .stored (a .row) (a .column) (a .row-below) (a .column-below));
         below = λ i k.
-          let a : Spot n i = spot n i k in
-          subst (λ (j : ℕ). cellOf (r .mark) (getD u j (pos zero)) ≤ᶜ cellOf (r .mark) (getD t j (pos zero))) (sym (a .is))
-          (l .down (a .row) (a .column) (a .row-below) (a .column-below)) }
+            let a : Spot n i = spot n i k in
+            subst (λ (j : ℕ). cellOf (r .mark) (getD u j (pos zero)) ≤ᶜ cellOf (r .mark) (getD t j (pos zero))) (sym (a .is))
+            (l .down (a .row) (a .column) (a .row-below) (a .column-below));
+      }
 
   -- lowering never raises the sum of heights
   pub lowered-heights : heights r (n * n) u ≤ heights r (n * n) t

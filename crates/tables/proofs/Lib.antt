@@ -7,3 +7,4 @@ pub mod Settled
 pub mod Heights
 pub mod First
 pub mod Going
+pub mod Turns

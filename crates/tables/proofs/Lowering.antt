@@ -14,13 +14,9 @@ use Rattle.rules.specs.Plan.{Ranges, Coherent}
 use Rattle.rules.proofs.Lists.{same-list}
 use Rattle.rules.specs.Cells.{Cell, _≤ᶜ_, cellOf, tableOf}
 use Rattle.cell.specs.Steps.{smallerᶜ, Stored, clamped}
+use Rattle.tables.specs.Table.{Sound}
 use Rattle.tables.specs.Sweep.{iter, numberOf, lowerCell}
 use Rattle.tables.proofs.Numbers.{cell-of-number, ≤ᶜ-refl, ≤ᶜ-trans, ≤ᶜ-antisym, smaller-left, smaller-right, smaller-keeps, clamped-stored}
-
--- a list with room for a table whose cells a sweep stores
-pub record Sound (r : Ranges) (n : ℕ) (t : List ℤ) : Type 0 where
-  pub room : n * n ≤ length t
-  pub stored : (x y : ℕ) → x < n → y < n → Stored (r .reach) (tableOf r n t x y)
 
 -- u is t with cells lowered
 pub record Lowered (r : Ranges) (n : ℕ) (t u : List ℤ) : Type 0 where
@@ -39,7 +35,8 @@ lowered-trans r n t u v a b =
       same-length = b .same-length ∙ a .same-length;
       beyond = λ i h. b .beyond i h ∙ a .beyond i h;
       down = λ x y hx hy. ≤ᶜ-trans (tableOf r n v x y) (tableOf r n u x y) (tableOf r n t x y) (b .down x y hx hy) (a .down x y hx hy);
-      sound = b .sound }
+      sound = b .sound;
+    }
 
 -- a list lowered, and lowered back to what it was, was not changed
 pub lowered-antisym : (r : Ranges) (n : ℕ) (t u : List ℤ) → Lowered r n t u → Lowered r n u t → u ≡ t
@@ -52,21 +49,21 @@ lowered-antisym r n t u a b =
 module _ (r : Ranges) (h : Coherent r) (n : ℕ) where
   -- what a cell is after one was lowered
   pub after-lowering : (x y : ℕ) (c : Cell) (t : List ℤ) → Sound r n t → x < n → y < n → (x′ y′ : ℕ) → x′ < n → y′ < n
-    → (((x′ ≡ x) × (y′ ≡ y)) × (tableOf r n (lowerCell r n x y c t) x′ y′ ≡ smallerᶜ (clamped (r .reach) c) (tableOf r n t x y)))
-    ⊎ (((x′ ≡ x) × (y′ ≡ y) → ⊥) × (tableOf r n (lowerCell r n x y c t) x′ y′ ≡ tableOf r n t x′ y′))
+      → (((x′ ≡ x) × (y′ ≡ y)) × (tableOf r n (lowerCell r n x y c t) x′ y′ ≡ smallerᶜ (clamped (r .reach) c) (tableOf r n t x y)))
+      ⊎ (((x′ ≡ x) × (y′ ≡ y) → ⊥) × (tableOf r n (lowerCell r n x y c t) x′ y′ ≡ tableOf r n t x′ y′))
   unfolding tableOf lowerCell
   after-lowering x y c t s hx hy x′ y′ hx′ hy′ =
       let new : Cell = smallerᶜ (clamped (r .reach) c) (tableOf r n t x y) in
       let stored : Stored (r .reach) new =
-        smaller-keeps (Stored (r .reach)) (clamped (r .reach) c) (tableOf r n t x y) (clamped-stored (r .reach) c) (s .stored x y hx hy) in
+      smaller-keeps (Stored (r .reach)) (clamped (r .reach) c) (tableOf r n t x y) (clamped-stored (r .reach) c) (s .stored x y hx hy) in
       ⊎-elim (λ e. inl (e .0, ap (cellOf (r .mark)) (e .1) ∙ cell-of-number r h new stored))
       (λ e. inr (e .0, ap (cellOf (r .mark)) (e .1)))
       (after-write t (numberOf r new) (pos zero) hx′ hy′ hx hy (s .room))
 
   -- what holds of every cell and of the lowered one holds of every cell after
   pub lowering-keeps : (P : ℕ → ℕ → Cell → Type 0) (x y : ℕ) (c : Cell) (t : List ℤ) → Sound r n t → x < n → y < n
-    → P x y (smallerᶜ (clamped (r .reach) c) (tableOf r n t x y)) → ((x y : ℕ) → x < n → y < n → P x y (tableOf r n t x y))
-    → (x′ y′ : ℕ) → x′ < n → y′ < n → P x′ y′ (tableOf r n (lowerCell r n x y c t) x′ y′)
+      → P x y (smallerᶜ (clamped (r .reach) c) (tableOf r n t x y)) → ((x y : ℕ) → x < n → y < n → P x y (tableOf r n t x y))
+      → (x′ y′ : ℕ) → x′ < n → y′ < n → P x′ y′ (tableOf r n (lowerCell r n x y c t) x′ y′)
   lowering-keeps P x y c t s hx hy new old x′ y′ hx′ hy′ =
       ⊎-elim (λ e. rw (e .1, e .0 .0, e .0 .1) new) (λ e. rw (e .1) (old x′ y′ hx′ hy′)) (after-lowering x y c t s hx hy x′ y′ hx′ hy′)
 
@@ -80,21 +77,23 @@ module _ (r : Ranges) (h : Coherent r) (n : ℕ) where
         same-length = length-set t (x * n + y) (numberOf r new);
         beyond = λ i k. getD-set-other t (x * n + y) i (numberOf r new) (pos zero) (omega (arith, inside hx hy));
         down =
-          lowering-keeps (λ x′ y′ d. d ≤ᶜ tableOf r n t x′ y′) x y c t s hx hy (smaller-right (clamped (r .reach) c) old)
-          (λ x′ y′ hx′ hy′. ≤ᶜ-refl (tableOf r n t x′ y′));
+            lowering-keeps (λ x′ y′ d. d ≤ᶜ tableOf r n t x′ y′) x y c t s hx hy (smaller-right (clamped (r .reach) c) old)
+            (λ x′ y′ hx′ hy′. ≤ᶜ-refl (tableOf r n t x′ y′));
         sound = record {
           room = omega (arith, s .room, length-set t (x * n + y) (numberOf r new));
           stored =
-            lowering-keeps (λ x′ y′ d. Stored (r .reach) d) x y c t s hx hy
-            (smaller-keeps (Stored (r .reach)) (clamped (r .reach) c) old (clamped-stored (r .reach) c) (s .stored x y hx hy)) (s .stored) } }
+              lowering-keeps (λ x′ y′ d. Stored (r .reach) d) x y c t s hx hy
+              (smaller-keeps (Stored (r .reach)) (clamped (r .reach) c) old (clamped-stored (r .reach) c) (s .stored x y hx hy)) (s .stored);
+        };
+      }
 
   -- a cell that lowering left as it was is at most what it was lowered to
   pub cell-fixed : (x y : ℕ) (c : Cell) (t : List ℤ) → x < n → y < n → Sound r n t → lowerCell r n x y c t ≡ t
-    → tableOf r n t x y ≤ᶜ clamped (r .reach) c
+      → tableOf r n t x y ≤ᶜ clamped (r .reach) c
   cell-fixed x y c t hx hy s e =
       ⊎-elim
       (λ k. subst (λ (d : Cell). d ≤ᶜ clamped (r .reach) c) (sym (k .1) ∙ ap (λ (u : List ℤ). tableOf r n u x y) e)
-        (smaller-left (clamped (r .reach) c) (tableOf r n t x y)))
+      (smaller-left (clamped (r .reach) c) (tableOf r n t x y)))
       (λ k. absurd (k .0 (refl, refl))) (after-lowering x y c t s hx hy x y hx hy)
 
 -- ---- steps

@@ -109,7 +109,7 @@ clamping reach c = first (ltZ (pos reach) c) refl
     second false e h = inside (ltZ-no (rw e tt)) h
 
     first : (b : Bool) → ltZ (pos reach) c ≡ b
-      → Clamping reach c (cond b mark (cond (ltZ c (negℤ (pos reach))) (num (negsuc reach)) (num c)))
+        → Clamping reach c (cond b mark (cond (ltZ c (negℤ (pos reach))) (num (negsuc reach)) (num c)))
     first true e = above (ltZ-yes (rw e tt))
     first false e = second (ltZ c (negℤ (pos reach))) refl (ltZ-no (rw e tt))
 

@@ -28,7 +28,7 @@ use Rattle.rules.proofs.Settled.{top, as-open}
 use Rattle.cell.specs.Steps.{clamped}
 use Rattle.tables.specs.Sweep.{lowerAll, upperAll, caseAll, sweepStrict, sweepOpen}
 use Rattle.tables.proofs.Numbers.{Clamping, above, below, inside, clamping, ≤ᶜ-trans}
-use Rattle.tables.proofs.Lowering.{Sound}
+use Rattle.tables.specs.Table.{Sound}
 use Rattle.tables.proofs.Steps.{LinkPoints, joins-fixed, lower-fixed, upper-fixed, open-fixed, case-fixed, strict-fixed, open-sweep-fixed}
 use Rattle.tables.proofs.Walked.{Has, has-sum, has-lowered, has-uppered, has-open, Walked, PlanLinks}
 
@@ -101,14 +101,14 @@ module _ (p : Plan) (r : Ranges) (h : Coherent r) (g : Pointed p) (b : Weighted 
   module _ (strict weak : List ℤ) (s : Still p r link count strict weak) where
     -- along a trail of given edges, the strict cell is at most the total
     along : {x z : ℕ} {t : ℤ} {ps : List ℕ} → x < p .points → z < p .points → r .weight * length ps ≤ r .reach → Trail (Given p) x z t ps
-      → AtMost (tableOf r (p .points) strict x z) t
+        → AtMost (tableOf r (p .points) strict x z) t
     along {x} hx hz room stop = record { value = pos zero; is = s .strict-zero x hx; le = ≤ℤ-refl (pos zero) }
     along {x} {z} hx hz room (go {y} {v} {w} {ps} e k) =
         let hy : y < p .points = given-ends p g e .to in
         let shorter : r .weight * length ps ≤ r .reach = omega (arith, room) in
         let whole : Trail (Given p) x z (v +ℤ w) (y ∷ ps) = go e k in
         let lo : negℤ (pos (r .weight * suc (length ps))) ≤ℤ (v +ℤ w) =
-          trail-least (Given p) (r .weight) (λ x y w e. basic-least b (basic-given e)) whole in
+        trail-least (Given p) (r .weight) (λ x y w e. basic-least b (basic-given e)) whole in
         let hi : (v +ℤ w) ≤ℤ pos (r .weight * suc (length ps)) = trail-most (Given p) (r .weight) (given-most b) whole in
         let first : AtMost (tableOf r (p .points) strict x y) v = at-most (s .given-below x y v e) in
         let rest : AtMost (tableOf r (p .points) strict y z) w = along hy hz shorter k in
@@ -130,35 +130,35 @@ module _ (p : Plan) (r : Ranges) (h : Coherent r) (g : Pointed p) (b : Weighted 
 
     -- a strict cell under what was stored of a cell with its walk is under that cell
     strict-exact : (x z : ℕ) (d : Cell) → x < p .points → z < p .points → Has (Derivable p) x z d
-      → tableOf r (p .points) strict x z ≤ᶜ clamped (r .reach) d → tableOf r (p .points) strict x z ≤ᶜ d
+        → tableOf r (p .points) strict x z ≤ᶜ clamped (r .reach) d → tableOf r (p .points) strict x z ≤ᶜ d
     strict-exact x z d hx hz has q =
         exact (r .reach) (tableOf r (p .points) strict x z) d (s .strict-within x z hx hz)
         (λ c e.
-          let k : Dominated (Derivable p) x z c = subst (Has (Derivable p) x z) e has in
-          connected hx hz (as-open (k .walk))) q
+        let k : Dominated (Derivable p) x z c = subst (Has (Derivable p) x z) e has in
+        connected hx hz (as-open (k .walk))) q
 
     -- an open cell is at most the strict one
     open-under : (x y : ℕ) → x < p .points → y < p .points → tableOf r (p .points) weak x y ≤ᶜ tableOf r (p .points) strict x y
     open-under x y hx hy =
         let fixed : tableOf r (p .points) weak x y ≤ᶜ clamped (r .reach) (tableOf r (p .points) strict x y) =
-          open-fixed r h (p .points) strict weak (s .open-walks .sound)
-          (open-sweep-fixed r h (p .points) link count (l .links .points) strict weak (s .open-walks .sound) (s .open-same) .0) x y hx hy in
+        open-fixed r h (p .points) strict weak (s .open-walks .sound)
+        (open-sweep-fixed r h (p .points) link count (l .links .points) strict weak (s .open-walks .sound) (s .open-same) .0) x y hx hy in
         exact (r .reach) (tableOf r (p .points) weak x y) (tableOf r (p .points) strict x y) (s .open-within x y hx hy)
         (λ c e.
-          let k : Dominated (Derivable p) x y c = subst (Has (Derivable p) x y) e (s .strict-walks .has x y hx hy) in
-          under fixed
-          (stored-at-most (r .reach) (tableOf r (p .points) strict x y) (omega (ints, neg (pos (r .reach)))) (≤ℤ-refl (pos (r .reach)))
-          (connected hx hy (as-open (k .walk)))))
+        let k : Dominated (Derivable p) x y c = subst (Has (Derivable p) x y) e (s .strict-walks .has x y hx hy) in
+        under fixed
+        (stored-at-most (r .reach) (tableOf r (p .points) strict x y) (omega (ints, neg (pos (r .reach)))) (≤ℤ-refl (pos (r .reach)))
+        (connected hx hy (as-open (k .walk)))))
         fixed
 
     -- and under what was stored of a cell with its walk, under that cell
     open-exact : (x z : ℕ) (d : Cell) → x < p .points → z < p .points → Has (Open p) x z d
-      → tableOf r (p .points) weak x z ≤ᶜ clamped (r .reach) d → tableOf r (p .points) weak x z ≤ᶜ d
+        → tableOf r (p .points) weak x z ≤ᶜ clamped (r .reach) d → tableOf r (p .points) weak x z ≤ᶜ d
     open-exact x z d hx hz has q =
         exact (r .reach) (tableOf r (p .points) weak x z) d (s .open-within x z hx hz)
         (λ c e.
-          let k : Dominated (Open p) x z c = subst (Has (Open p) x z) e has in
-          under (open-under x z hx hz) (connected hx hz (k .walk))) q
+        let k : Dominated (Open p) x z c = subst (Has (Open p) x z) e has in
+        under (open-under x z hx hz) (connected hx hz (k .walk))) q
 
     -- the tables are closed
     pub still-closed : Closed r p (tableOf r (p .points) strict) (tableOf r (p .points) weak)
@@ -172,24 +172,25 @@ module _ (p : Plan) (r : Ranges) (h : Coherent r) (g : Pointed p) (b : Weighted 
           strict-diagonal = s .strict-zero;
           open-diagonal = s .open-zero;
           strict-join = λ x y z hx hy hz.
-            strict-exact x z (tableOf r (p .points) strict x y +ᶜ tableOf r (p .points) strict y z) hx hz
-            (has-sum (Derivable p) x y z (tableOf r (p .points) strict x y) (tableOf r (p .points) strict y z)
-            (s .strict-walks .has x y hx hy) (s .strict-walks .has y z hy hz))
-            (joins-fixed r h (p .points) strict (s .strict-walks .sound) (fixed .0) x y z hx hy hz);
+              strict-exact x z (tableOf r (p .points) strict x y +ᶜ tableOf r (p .points) strict y z) hx hz
+              (has-sum (Derivable p) x y z (tableOf r (p .points) strict x y) (tableOf r (p .points) strict y z)
+              (s .strict-walks .has x y hx hy) (s .strict-walks .has y z hy hz))
+              (joins-fixed r h (p .points) strict (s .strict-walks .sound) (fixed .0) x y z hx hy hz);
           open-join = λ x y z hx hy hz.
-            open-exact x z (tableOf r (p .points) weak x y +ᶜ tableOf r (p .points) weak y z) hx hz
-            (has-sum (Open p) x y z (tableOf r (p .points) weak x y) (tableOf r (p .points) weak y z) (s .open-walks .has x y hx hy)
-            (s .open-walks .has y z hy hz))
-            (joins-fixed r h (p .points) weak (s .open-walks .sound) (open-sweep .2) x y z hx hy hz);
+              open-exact x z (tableOf r (p .points) weak x y +ᶜ tableOf r (p .points) weak y z) hx hz
+              (has-sum (Open p) x y z (tableOf r (p .points) weak x y) (tableOf r (p .points) weak y z) (s .open-walks .has x y hx hy)
+              (s .open-walks .has y z hy hz))
+              (joins-fixed r h (p .points) weak (s .open-walks .sound) (open-sweep .2) x y z hx hy hz);
           given = s .given-below;
           lower = λ k j hk hj ne. lower-exact k j hk hj ne (fixed .1);
           upper = λ k hk x hx. upper-exact k hk x hx (fixed .2);
           open-strict = open-under;
-          open-lower-case = λ k hk. case-exact k hk (open-sweep .1) }
+          open-lower-case = λ k hk. case-exact k hk (open-sweep .1);
+        }
       where
         lower-exact : (k j : Link) → List·Memᴰ k (p .links) → List·Memᴰ j (p .links) → j .con ≢ k .con
-          → lowerAll r (p .points) link count strict ≡ strict
-          → tableOf r (p .points) strict (k .act) (j .con) ≤ᶜ lowered k j (tableOf r (p .points) strict (k .con) (j .con))
+            → lowerAll r (p .points) link count strict ≡ strict
+            → tableOf r (p .points) strict (k .act) (j .con) ≤ᶜ lowered k j (tableOf r (p .points) strict (k .con) (j .con))
         lower-exact k j hk hj ne e =
             let i : ℕ = l .index k hk in
             let i′ : ℕ = l .index j hj in
@@ -197,35 +198,35 @@ module _ (p : Plan) (r : Ranges) (h : Coherent r) (g : Pointed p) (b : Weighted 
             let ej : link i′ ≡ j = l .index-is j hj in
             let cell : Cell = tableOf r (p .points) strict (k .con) (j .con) in
             let below-stored : tableOf r (p .points) strict (k .act) (j .con) ≤ᶜ clamped (r .reach) (lowered k j cell) =
-              subst₂
-              (λ (a c : Link).
-                c .con ≢ a .con
-                → tableOf r (p .points) strict (a .act) (c .con)
-                ≤ᶜ clamped (r .reach) (lowered a c (tableOf r (p .points) strict (a .con) (c .con))))
-              ek ej
-              (λ ne′. lower-fixed r h (p .points) link count (l .links .points) strict (s .strict-walks .sound) e i i′
-                (l .index-below k hk) (l .index-below j hj) ne′)
-              ne in
+            subst₂
+            (λ (a c : Link).
+            c .con ≢ a .con
+            → tableOf r (p .points) strict (a .act) (c .con)
+            ≤ᶜ clamped (r .reach) (lowered a c (tableOf r (p .points) strict (a .con) (c .con))))
+            ek ej
+            (λ ne′. lower-fixed r h (p .points) link count (l .links .points) strict (s .strict-walks .sound) e i i′
+            (l .index-below k hk) (l .index-below j hj) ne′)
+            ne in
             strict-exact (k .act) (j .con) (lowered k j cell) (g .link-act k hk) (g .link-con j hj)
             (has-lowered p k j cell hk hj ne (s .strict-walks .has (k .con) (j .con) (g .link-con k hk) (g .link-con j hj)))
             below-stored
 
         upper-exact : (k : Link) → List·Memᴰ k (p .links) → (x : ℕ) → x < p .points → upperAll r (p .points) link count strict ≡ strict
-          → tableOf r (p .points) strict x (k .act) ≤ᶜ uppered k (tableOf r (p .points) strict x (k .con))
+            → tableOf r (p .points) strict x (k .act) ≤ᶜ uppered k (tableOf r (p .points) strict x (k .con))
         upper-exact k hk x hx e =
             let cell : Cell = tableOf r (p .points) strict x (k .con) in
             let below-stored : tableOf r (p .points) strict x (k .act) ≤ᶜ clamped (r .reach) (uppered k cell) =
-              subst
-              (λ (a : Link). tableOf r (p .points) strict x (a .act) ≤ᶜ clamped (r .reach) (uppered a (tableOf r (p .points) strict x (a .con))))
-              (l .index-is k hk)
-              (upper-fixed r h (p .points) link count (l .links .points) strict (s .strict-walks .sound) e x (l .index k hk) hx
-              (l .index-below k hk)) in
+            subst
+            (λ (a : Link). tableOf r (p .points) strict x (a .act) ≤ᶜ clamped (r .reach) (uppered a (tableOf r (p .points) strict x (a .con))))
+            (l .index-is k hk)
+            (upper-fixed r h (p .points) link count (l .links .points) strict (s .strict-walks .sound) e x (l .index k hk) hx
+            (l .index-below k hk)) in
             strict-exact x (k .act) (uppered k cell) hx (g .link-act k hk)
             (has-uppered p k x cell hk (s .strict-walks .has x (k .con) hx (g .link-con k hk)))
             below-stored
 
         case-exact : (k : Link) → List·Memᴰ k (p .links) → caseAll r (p .points) link count weak ≡ weak
-          → tableOf r (p .points) weak (k .act) (k .con) ≤ᶜ num (pos (k .short))
+            → tableOf r (p .points) weak (k .act) (k .con) ≤ᶜ num (pos (k .short))
         case-exact k hk e =
             open-exact (k .act) (k .con) (num (pos (k .short))) (g .link-act k hk) (g .link-con k hk)
             (exactly (single (edges.lower-case hk)))
@@ -238,5 +239,6 @@ module _ (p : Plan) (r : Ranges) (h : Coherent r) (g : Pointed p) (b : Weighted 
         justified-closed r p (tableOf r (p .points) strict) (tableOf r (p .points) weak) g
         (record {
           strict-walk = λ x y hx hy c e. subst (Has (Derivable p) x y) e (s .strict-walks .has x y hx hy);
-          open-walk = λ x y hx hy c e. subst (Has (Open p) x y) e (s .open-walks .has x y hx hy) })
+          open-walk = λ x y hx hy c e. subst (Has (Open p) x y) e (s .open-walks .has x y hx hy);
+        })
         still-closed

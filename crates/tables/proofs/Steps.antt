@@ -11,7 +11,8 @@ use Rattle.rules.specs.Plan.{Limit, Link, Ranges, Coherent}
 use Rattle.rules.specs.Cells.{Cell, num, _+ᶜ_, _≤ᶜ_, lowered, uppered, tableOf}
 use Rattle.cell.specs.Steps.{clamped}
 use Rattle.tables.specs.Sweep.{iter, lowerCell, joinCell, joinRow, joinMiddle, joinAll, lowerPair, lowerLink, lowerAll, upperCell, upperPoint, upperAll, openCell, openRow, openAll, caseLink, caseAll, sweepStrict, sweepOpen, limitCell, limitAll, diagonalAll, startAll, linkEdges, linkAll}
-use Rattle.tables.proofs.Lowering.{Sound, Lowered, Lowers, lowered-refl, lowered-trans, cell-lowered, cell-fixed, iter-lowered, iter-fixed, both-fixed}
+use Rattle.tables.specs.Table.{Sound}
+use Rattle.tables.proofs.Lowering.{Lowered, Lowers, lowered-refl, lowered-trans, cell-lowered, cell-fixed, iter-lowered, iter-fixed, both-fixed}
 
 -- the links name points of the table
 pub record LinkPoints (n : ℕ) (link : ℕ → Link) (count : ℕ) : Type 0 where
@@ -21,7 +22,7 @@ pub record LinkPoints (n : ℕ) (link : ℕ → Link) (count : ℕ) : Type 0 whe
 module _ (r : Ranges) (h : Coherent r) (n : ℕ) where
   -- ---- Join
 
-  cell-lowers : (y x : ℕ) (a : Cell) → x < n → Lowers r n n (joinCell r n y x a)
+  pub cell-lowers : (y x : ℕ) (a : Cell) → x < n → Lowers r n n (joinCell r n y x a)
   unfolding joinCell
   cell-lowers y x a hx z hz t s = cell-lowered r h n x z (a +ᶜ tableOf r n t y z) t hx hz s
 
@@ -38,7 +39,7 @@ module _ (r : Ranges) (h : Coherent r) (n : ℕ) where
   joins-lower t s = iter-lowered r n n (joinMiddle r n) middle-lowers t s
 
   pub joins-fixed : (t : List ℤ) → Sound r n t → joinAll r n t ≡ t → (x y z : ℕ) → x < n → y < n → z < n
-    → tableOf r n t x z ≤ᶜ clamped (r .reach) (tableOf r n t x y +ᶜ tableOf r n t y z)
+      → tableOf r n t x z ≤ᶜ clamped (r .reach) (tableOf r n t x y +ᶜ tableOf r n t y z)
   unfolding joinAll joinMiddle joinRow joinCell
   joins-fixed t s e x y z hx hy hz =
       let middle : joinMiddle r n y t ≡ t = iter-fixed r n n (joinMiddle r n) middle-lowers t s e y hy in
@@ -61,7 +62,7 @@ module _ (r : Ranges) (h : Coherent r) (n : ℕ) where
       by false = cell-lowered r h n (k .act) (j .con) (lowered k j (tableOf r n t (k .con) (j .con))) t hk hj s
 
   pair-fixed : (k j : Link) → k .act < n → j .con < n → j .con ≢ k .con → (t : List ℤ) → Sound r n t → lowerPair r n k j t ≡ t
-    → tableOf r n t (k .act) (j .con) ≤ᶜ clamped (r .reach) (lowered k j (tableOf r n t (k .con) (j .con)))
+      → tableOf r n t (k .act) (j .con) ≤ᶜ clamped (r .reach) (lowered k j (tableOf r n t (k .con) (j .con)))
   unfolding lowerPair
   pair-fixed k j hk hj ne t s e = by (eqb (j .con) (k .con)) refl e
     where
@@ -69,7 +70,7 @@ module _ (r : Ranges) (h : Coherent r) (n : ℕ) where
       c = lowered k j (tableOf r n t (k .con) (j .con))
 
       by : (b : Bool) → eqb (j .con) (k .con) ≡ b → cond b t (lowerCell r n (k .act) (j .con) c t) ≡ t
-        → tableOf r n t (k .act) (j .con) ≤ᶜ clamped (r .reach) c
+          → tableOf r n t (k .act) (j .con) ≤ᶜ clamped (r .reach) c
       by true i q = absurd (ne (eqb→eq (j .con) (k .con) (rw i tt)))
       by false i q = cell-fixed r h n (k .act) (j .con) c t hk hj s q
 
@@ -86,15 +87,15 @@ module _ (r : Ranges) (h : Coherent r) (n : ℕ) where
     lower-lowers t s = iter-lowered r n count (λ i. lowerLink r n link count (link i)) link-lowers t s
 
     pub lower-fixed : (t : List ℤ) → Sound r n t → lowerAll r n link count t ≡ t → (i j : ℕ) → i < count → j < count
-      → link j .con ≢ link i .con
-      → tableOf r n t (link i .act) (link j .con)
-      ≤ᶜ clamped (r .reach) (lowered (link i) (link j) (tableOf r n t (link i .con) (link j .con)))
+        → link j .con ≢ link i .con
+        → tableOf r n t (link i .act) (link j .con)
+        ≤ᶜ clamped (r .reach) (lowered (link i) (link j) (tableOf r n t (link i .con) (link j .con)))
     unfolding lowerAll lowerLink
     lower-fixed t s e i j hi hj ne =
         let one : lowerLink r n link count (link i) t ≡ t =
-          iter-fixed r n count (λ i. lowerLink r n link count (link i)) link-lowers t s e i hi in
+        iter-fixed r n count (λ i. lowerLink r n link count (link i)) link-lowers t s e i hi in
         let pair : lowerPair r n (link i) (link j) t ≡ t =
-          iter-fixed r n count (λ j. lowerPair r n (link i) (link j)) (pair-lowers i hi) t s one j hj in
+        iter-fixed r n count (λ j. lowerPair r n (link i) (link j)) (pair-lowers i hi) t s one j hj in
         pair-fixed (link i) (link j) (p .act-below i hi) (p .con-below j hj) ne t s pair
 
     -- ---- Upper
@@ -113,13 +114,13 @@ module _ (r : Ranges) (h : Coherent r) (n : ℕ) where
     upper-lowers t s = iter-lowered r n n (upperPoint r n link count) upper-point-lowers t s
 
     pub upper-fixed : (t : List ℤ) → Sound r n t → upperAll r n link count t ≡ t → (x i : ℕ) → x < n → i < count
-      → tableOf r n t x (link i .act) ≤ᶜ clamped (r .reach) (uppered (link i) (tableOf r n t x (link i .con)))
+        → tableOf r n t x (link i .act) ≤ᶜ clamped (r .reach) (uppered (link i) (tableOf r n t x (link i .con)))
     unfolding upperAll upperPoint upperCell
     upper-fixed t s e x i hx hi =
         let point : upperPoint r n link count x t ≡ t =
-          iter-fixed r n n (upperPoint r n link count) upper-point-lowers t s e x hx in
+        iter-fixed r n n (upperPoint r n link count) upper-point-lowers t s e x hx in
         let cell : upperCell r n x (link i) t ≡ t =
-          iter-fixed r n count (λ i. upperCell r n x (link i)) (upper-cell-lowers x hx) t s point i hi in
+        iter-fixed r n count (λ i. upperCell r n x (link i)) (upper-cell-lowers x hx) t s point i hi in
         cell-fixed r h n x (link i .act) (uppered (link i) (tableOf r n t x (link i .con))) t hx (p .act-below i hi) s cell
 
     -- ---- lower-case edges
@@ -134,7 +135,7 @@ module _ (r : Ranges) (h : Coherent r) (n : ℕ) where
     case-lowers t s = iter-lowered r n count (λ i. caseLink r n (link i)) case-link-lowers t s
 
     pub case-fixed : (t : List ℤ) → Sound r n t → caseAll r n link count t ≡ t → (i : ℕ) → i < count
-      → tableOf r n t (link i .act) (link i .con) ≤ᶜ clamped (r .reach) (num (pos (link i .short)))
+        → tableOf r n t (link i .act) (link i .con) ≤ᶜ clamped (r .reach) (num (pos (link i .short)))
     unfolding caseAll caseLink
     case-fixed t s e i hi =
         let one : caseLink r n (link i) t ≡ t = iter-fixed r n count (λ i. caseLink r n (link i)) case-link-lowers t s e i hi in
@@ -155,12 +156,12 @@ module _ (r : Ranges) (h : Coherent r) (n : ℕ) where
   open-lowers strict t s = iter-lowered r n n (openRow r n strict) (open-row-lowers strict) t s
 
   pub open-fixed : (strict t : List ℤ) → Sound r n t → openAll r n strict t ≡ t → (x y : ℕ) → x < n → y < n
-    → tableOf r n t x y ≤ᶜ clamped (r .reach) (tableOf r n strict x y)
+      → tableOf r n t x y ≤ᶜ clamped (r .reach) (tableOf r n strict x y)
   unfolding openAll openRow openCell
   open-fixed strict t s e x y hx hy =
       let row : openRow r n strict x t ≡ t = iter-fixed r n n (openRow r n strict) (open-row-lowers strict) t s e x hx in
       let cell : openCell r n strict x y t ≡ t =
-        iter-fixed r n n (openCell r n strict x) (open-cell-lowers strict x hx) t s row y hy in
+      iter-fixed r n n (openCell r n strict x) (open-cell-lowers strict x hx) t s row y hy in
       cell-fixed r h n x y (tableOf r n strict x y) t hx hy s cell
 
   -- ---- a whole sweep
@@ -178,7 +179,7 @@ module _ (r : Ranges) (h : Coherent r) (n : ℕ) where
 
     -- a sweep that leaves the strict table as it was: so did joins, Lower and Upper
     pub strict-fixed : (t : List ℤ) → Sound r n t → sweepStrict r n link count t ≡ t
-      → (joinAll r n t ≡ t) × (lowerAll r n link count t ≡ t) × (upperAll r n link count t ≡ t)
+        → (joinAll r n t ≡ t) × (lowerAll r n link count t ≡ t) × (upperAll r n link count t ≡ t)
     unfolding sweepStrict
     strict-fixed t s e =
         let a : Lowered r n t (joinAll r n t) = joins-lower t s in
@@ -187,9 +188,9 @@ module _ (r : Ranges) (h : Coherent r) (n : ℕ) where
         let v : List ℤ = lowerAll r n link count u in
         let c : Lowered r n v (upperAll r n link count v) = upper-lowers link count p v (b .sound) in
         let first : (v ≡ t) × (upperAll r n link count t ≡ t) =
-          both-fixed r n (λ (w : List ℤ). lowerAll r n link count (joinAll r n w)) (upperAll r n link count) t (lowered-trans r n t u v a b) c e in
+        both-fixed r n (λ (w : List ℤ). lowerAll r n link count (joinAll r n w)) (upperAll r n link count) t (lowered-trans r n t u v a b) c e in
         let second : (u ≡ t) × (lowerAll r n link count t ≡ t) =
-          both-fixed r n (joinAll r n) (lowerAll r n link count) t a b (first .0) in
+        both-fixed r n (joinAll r n) (lowerAll r n link count) t a b (first .0) in
         (second .0, second .1, first .1)
 
     pub open-sweep-lowers : (strict t : List ℤ) → Sound r n t → Lowered r n t (sweepOpen r n link count strict t)
@@ -202,7 +203,7 @@ module _ (r : Ranges) (h : Coherent r) (n : ℕ) where
         lowered-trans r n t u (joinAll r n v) a (lowered-trans r n u v (joinAll r n v) b (joins-lower v (b .sound)))
 
     pub open-sweep-fixed : (strict t : List ℤ) → Sound r n t → sweepOpen r n link count strict t ≡ t
-      → (openAll r n strict t ≡ t) × (caseAll r n link count t ≡ t) × (joinAll r n t ≡ t)
+        → (openAll r n strict t ≡ t) × (caseAll r n link count t ≡ t) × (joinAll r n t ≡ t)
     unfolding sweepOpen
     open-sweep-fixed strict t s e =
         let a : Lowered r n t (openAll r n strict t) = open-lowers strict t s in
@@ -211,7 +212,7 @@ module _ (r : Ranges) (h : Coherent r) (n : ℕ) where
         let v : List ℤ = caseAll r n link count u in
         let c : Lowered r n v (joinAll r n v) = joins-lower v (b .sound) in
         let first : (v ≡ t) × (joinAll r n t ≡ t) =
-          both-fixed r n (λ (w : List ℤ). caseAll r n link count (openAll r n strict w)) (joinAll r n) t (lowered-trans r n t u v a b) c e in
+        both-fixed r n (λ (w : List ℤ). caseAll r n link count (openAll r n strict w)) (joinAll r n) t (lowered-trans r n t u v a b) c e in
         let second : (u ≡ t) × (caseAll r n link count t ≡ t) =
-          both-fixed r n (openAll r n strict) (caseAll r n link count) t a b (first .0) in
+        both-fixed r n (openAll r n strict) (caseAll r n link count) t a b (first .0) in
         (second .0, second .1, first .1)

@@ -17,7 +17,8 @@ use Rattle.rules.proofs.Domination.{lower-walk, upper-walk}
 use Rattle.cell.specs.Steps.{smallerᶜ, clamped}
 use Rattle.tables.specs.Sweep.{iter, lowerCell, joinCell, joinRow, joinMiddle, joinAll, lowerPair, lowerLink, lowerAll, upperCell, upperPoint, upperAll, openCell, openRow, openAll, caseLink, caseAll, sweepStrict, sweepOpen}
 use Rattle.tables.proofs.Numbers.{Clamping, above, below, inside, clamping, smaller-keeps}
-use Rattle.tables.proofs.Lowering.{Sound, Lowered, cell-lowered, lowering-keeps, iter-keeps}
+use Rattle.tables.specs.Table.{Sound}
+use Rattle.tables.proofs.Lowering.{Lowered, cell-lowered, lowering-keeps, iter-keeps}
 use Rattle.tables.proofs.Steps.{LinkPoints}
 
 -- the cell is the mark, or has a walk of total at most the cell
@@ -75,9 +76,10 @@ module _ (E : ℕ → ℕ → ℤ → Type 0) (r : Ranges) (h : Coherent r) (n :
       record {
         sound = cell-lowered r h n x y c t hx hy (w .sound) .sound;
         has =
-          lowering-keeps r h n (Has E) x y c t (w .sound) hx hy
-          (smaller-keeps (Has E x y) (clamped (r .reach) c) (tableOf r n t x y) (has-stored E x y (r .reach) c k) (w .has x y hx hy))
-          (w .has) }
+            lowering-keeps r h n (Has E) x y c t (w .sound) hx hy
+            (smaller-keeps (Has E x y) (clamped (r .reach) c) (tableOf r n t x y) (has-stored E x y (r .reach) c k) (w .has x y hx hy))
+            (w .has);
+      }
 
   -- joins
   join-row-walked : (y x : ℕ) → y < n → x < n → (t : List ℤ) → Walked E r n t → Walked E r n (joinRow r n y x t)
@@ -86,8 +88,8 @@ module _ (E : ℕ → ℕ → ℤ → Type 0) (r : Ranges) (h : Coherent r) (n :
       let a : Cell = tableOf r n t x y in
       iter-keeps (Walked E r n) n (joinCell r n y x a)
       (λ z hz u k.
-        cell-walked x z (a +ᶜ tableOf r n u y z) u hx hz
-        (has-sum E x y z a (tableOf r n u y z) (w .has x y hx hy) (k .has y z hy hz)) k)
+      cell-walked x z (a +ᶜ tableOf r n u y z) u hx hz
+      (has-sum E x y z a (tableOf r n u y z) (w .has x y hx hy) (k .has y z hy hz)) k)
       t w
 
   pub joins-walked : (t : List ℤ) → Walked E r n t → Walked E r n (joinAll r n t)
@@ -103,7 +105,7 @@ pub record PlanLinks (p : Plan) (link : ℕ → Link) (count : ℕ) : Type 0 whe
 
 module _ (p : Plan) (r : Ranges) (h : Coherent r) (link : ℕ → Link) (count : ℕ) (l : PlanLinks p link count) where
   pair-walked : (i j : ℕ) → i < count → j < count → (t : List ℤ) → Walked (Derivable p) r (p .points) t
-    → Walked (Derivable p) r (p .points) (lowerPair r (p .points) (link i) (link j) t)
+      → Walked (Derivable p) r (p .points) (lowerPair r (p .points) (link i) (link j) t)
   unfolding lowerPair
   pair-walked i j hi hj t w = by (eqb (link j .con) (link i .con)) refl
     where
@@ -117,8 +119,8 @@ module _ (p : Plan) (r : Ranges) (h : Coherent r) (link : ℕ → Link) (count :
       differ e q = subst T (subst (λ (c : ℕ). eqb c (k .con) ≡ false) q e) (eqb-refl (k .con))
 
       by : (b : Bool) → eqb (m .con) (k .con) ≡ b
-        → Walked (Derivable p) r (p .points)
-        (cond b t (lowerCell r (p .points) (k .act) (m .con) (lowered k m (tableOf r (p .points) t (k .con) (m .con))) t))
+          → Walked (Derivable p) r (p .points)
+          (cond b t (lowerCell r (p .points) (k .act) (m .con) (lowered k m (tableOf r (p .points) t (k .con) (m .con))) t))
       by true e = w
       by false e =
           cell-walked (Derivable p) r h (p .points) (k .act) (m .con) (lowered k m (tableOf r (p .points) t (k .con) (m .con))) t
@@ -128,50 +130,50 @@ module _ (p : Plan) (r : Ranges) (h : Coherent r) (link : ℕ → Link) (count :
           w
 
   pub lower-walked : (t : List ℤ) → Walked (Derivable p) r (p .points) t
-    → Walked (Derivable p) r (p .points) (lowerAll r (p .points) link count t)
+      → Walked (Derivable p) r (p .points) (lowerAll r (p .points) link count t)
   unfolding lowerAll lowerLink
   lower-walked t w =
       iter-keeps (Walked (Derivable p) r (p .points)) count (λ i. lowerLink r (p .points) link count (link i))
       (λ i hi u k.
-        iter-keeps (Walked (Derivable p) r (p .points)) count (λ j. lowerPair r (p .points) (link i) (link j))
-        (λ j hj v m. pair-walked i j hi hj v m) u k)
+      iter-keeps (Walked (Derivable p) r (p .points)) count (λ j. lowerPair r (p .points) (link i) (link j))
+      (λ j hj v m. pair-walked i j hi hj v m) u k)
       t w
 
   pub upper-walked : (t : List ℤ) → Walked (Derivable p) r (p .points) t
-    → Walked (Derivable p) r (p .points) (upperAll r (p .points) link count t)
+      → Walked (Derivable p) r (p .points) (upperAll r (p .points) link count t)
   unfolding upperAll upperPoint upperCell
   upper-walked t w =
       iter-keeps (Walked (Derivable p) r (p .points)) (p .points) (upperPoint r (p .points) link count)
       (λ x hx u k.
-        iter-keeps (Walked (Derivable p) r (p .points)) count (λ i. upperCell r (p .points) x (link i))
-        (λ i hi v m.
-          cell-walked (Derivable p) r h (p .points) x (link i .act) (uppered (link i) (tableOf r (p .points) v x (link i .con))) v hx
-          (l .points .act-below i hi)
-          (has-uppered p (link i) x (tableOf r (p .points) v x (link i .con)) (l .member i hi)
-          (m .has x (link i .con) hx (l .points .con-below i hi)))
-          m)
-        u k)
+      iter-keeps (Walked (Derivable p) r (p .points)) count (λ i. upperCell r (p .points) x (link i))
+      (λ i hi v m.
+      cell-walked (Derivable p) r h (p .points) x (link i .act) (uppered (link i) (tableOf r (p .points) v x (link i .con))) v hx
+      (l .points .act-below i hi)
+      (has-uppered p (link i) x (tableOf r (p .points) v x (link i .con)) (l .member i hi)
+      (m .has x (link i .con) hx (l .points .con-below i hi)))
+      m)
+      u k)
       t w
 
   -- a sweep of the strict table keeps its walks
   pub strict-walked : (t : List ℤ) → Walked (Derivable p) r (p .points) t
-    → Walked (Derivable p) r (p .points) (sweepStrict r (p .points) link count t)
+      → Walked (Derivable p) r (p .points) (sweepStrict r (p .points) link count t)
   unfolding sweepStrict
   strict-walked t w =
       upper-walked (lowerAll r (p .points) link count (joinAll r (p .points) t))
       (lower-walked (joinAll r (p .points) t) (joins-walked (Derivable p) r h (p .points) t w))
 
   open-walked : (strict t : List ℤ) → Walked (Derivable p) r (p .points) strict → Walked (Open p) r (p .points) t
-    → Walked (Open p) r (p .points) (openAll r (p .points) strict t)
+      → Walked (Open p) r (p .points) (openAll r (p .points) strict t)
   unfolding openAll openRow openCell
   open-walked strict t s w =
       iter-keeps (Walked (Open p) r (p .points)) (p .points) (openRow r (p .points) strict)
       (λ x hx u k.
-        iter-keeps (Walked (Open p) r (p .points)) (p .points) (openCell r (p .points) strict x)
-        (λ y hy v m.
-          cell-walked (Open p) r h (p .points) x y (tableOf r (p .points) strict x y) v hx hy
-          (has-open p x y (tableOf r (p .points) strict x y) (s .has x y hx hy)) m)
-        u k)
+      iter-keeps (Walked (Open p) r (p .points)) (p .points) (openCell r (p .points) strict x)
+      (λ y hy v m.
+      cell-walked (Open p) r h (p .points) x y (tableOf r (p .points) strict x y) v hx hy
+      (has-open p x y (tableOf r (p .points) strict x y) (s .has x y hx hy)) m)
+      u k)
       t w
 
   case-walked : (t : List ℤ) → Walked (Open p) r (p .points) t → Walked (Open p) r (p .points) (caseAll r (p .points) link count t)
@@ -179,13 +181,13 @@ module _ (p : Plan) (r : Ranges) (h : Coherent r) (link : ℕ → Link) (count :
   case-walked t w =
       iter-keeps (Walked (Open p) r (p .points)) count (λ i. caseLink r (p .points) (link i))
       (λ i hi u k.
-        cell-walked (Open p) r h (p .points) (link i .act) (link i .con) (num (pos (link i .short))) u (l .points .act-below i hi)
-        (l .points .con-below i hi) (exactly (single (edges.lower-case (l .member i hi)))) k)
+      cell-walked (Open p) r h (p .points) (link i .act) (link i .con) (num (pos (link i .short))) u (l .points .act-below i hi)
+      (l .points .con-below i hi) (exactly (single (edges.lower-case (l .member i hi)))) k)
       t w
 
   -- a sweep of the open table keeps its walks
   pub open-sweep-walked : (strict t : List ℤ) → Walked (Derivable p) r (p .points) strict → Walked (Open p) r (p .points) t
-    → Walked (Open p) r (p .points) (sweepOpen r (p .points) link count strict t)
+      → Walked (Open p) r (p .points) (sweepOpen r (p .points) link count strict t)
   unfolding sweepOpen
   open-sweep-walked strict t s w =
       joins-walked (Open p) r h (p .points) (caseAll r (p .points) link count (openAll r (p .points) strict t))

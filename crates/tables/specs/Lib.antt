@@ -1,2 +1,4 @@
+-- What the functions of this crate compute and ask.
+pub mod Table
 pub mod Sweep
 pub mod Fair
