@@ -10,12 +10,12 @@ use lib.IntN.{ℤ, pos, negsuc, negℤ, _+ℤ_, _-ℤ_}
 use lib.Signed.{ltZ, _≤ℤ_, _<ℤ_}
 use borrow.Author.Tests.{eq-eqb, ne-eqb}
 use mir.Syntax.{Width, w32, w64}
-use mir.Val.{SFits, ofZ, hbits, bits}
+use mir.Val.{SFits, ofZ, toZ, hbits, bits}
 use mir.ValLaws.{pow-bits}
 use Rattle.whole.specs.Signed.{up, dn, larger}
 use Rattle.whole.proofs.Order.{ints, plus, neg, split}
 use Rattle.whole.proofs.Larger.{larger-least}
-use Rattle.whole.proofs.Bits.{signed, kept, lt-ltZ, le-ltZ}
+use Rattle.whole.proofs.Bits.{signed, kept, lt-ltZ, le-ltZ, cast-is}
 use Rattle.rules.specs.Plan.{Ranges, Link, version1}
 use Rattle.rules.specs.Edges.{spread, upper-weight}
 use Rattle.rules.specs.Cells.{Cell, mark, num, cellOf, _+ᶜ_, lowered, uppered, Within}
@@ -93,6 +93,13 @@ module _ (n : ℕ) {c : Cell} {a : ℤ} (i : c ≡ num a) where
   pub reach-within : ltZ (pos n) a ≡ false → ltZ a (negℤ (pos n)) ≡ false → Decides true (Within n c)
   reach-within f g = decided-yes (rw i (omega signed))
 
+-- ---- from one width to another
+
+-- a cell that is a number, and whose number fits both types and is below the mark of the second, is the same cell there
+pub cast-cell : {w v : Width} (n : ℕ) {a : ℤ} {c : Cell} → SFits w a → SFits v a → c ≡ num a → a <ℤ pos n
+    → cellOf n (toZ v (ofZ v (toZ w (ofZ w a)))) ≡ c
+cast-cell n {a} h k i l = rw (cast-is h k, i) (number-is n a l)
+
 -- ---- what is asked of a width and its ranges
 
 -- the mark is the largest number of the type, and two cells of the reach and their floors add up below it
@@ -163,13 +170,14 @@ module _ {w : Width} {r : Ranges} (room : Room w r) where
   lower-fits {a} {l} x h = omega (signed, plus (pos l) a)
 
   -- what the rule yields where the number is below the spread of R's link, and where it is not
-  pub lower-yes : {a : ℤ} {l s : ℕ} → Number r a → l ≤ r .weight → ltZ a (pos s) ≡ true
+  pub lower-yes : {a d : ℤ} {l s : ℕ} → Number r a → l ≤ r .weight → d ≡ pos s → ltZ a d ≡ true
       → (k j : Link) → k .short ≡ l → spread j ≡ pos s → cellOf (r .mark) (pos l +ℤ a) ≡ lowered k j (cellOf (r .mark) a)
-  lower-yes {a} {l} {s} x h t k j e f =
-      rw (x .is, f, t, e) (number-is (r .mark) (pos l +ℤ a) (omega (signed, plus (pos l) a)))
+  lower-yes {a} {d} {l} {s} x h g t k j e f =
+      rw (x .is, f, ← g, t, e) (number-is (r .mark) (pos l +ℤ a) (omega (signed, plus (pos l) a)))
 
-  pub lower-no : {a : ℤ} {s : ℕ} → Number r a → ltZ a (pos s) ≡ false → (k j : Link) → spread j ≡ pos s → mark ≡ lowered k j (cellOf (r .mark) a)
-  lower-no {a} {s} x t k j f = rw (x .is, f, t)
+  pub lower-no : {a d : ℤ} {s : ℕ} → Number r a → d ≡ pos s → ltZ a d ≡ false
+      → (k j : Link) → spread j ≡ pos s → mark ≡ lowered k j (cellOf (r .mark) a)
+  lower-no x g t k j f = rw (x .is, f, ← g, t)
 
   -- Upper: a number of the reach less a weight, and the negation of a weight
   pub upper-fits : {a : ℤ} {u : ℕ} → Number r a → u ≤ r .weight → SFits w (a -ℤ pos u)

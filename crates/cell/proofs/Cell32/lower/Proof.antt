@@ -1,6 +1,7 @@
 -- `Cell32::lower` meets its contract: the mark stays, and past the test for it the cell is a number. Assumes nothing.
 use borrow.Author.Needs.{needs}
 use mathlib.Core.Path.{_∙_}
+use Rattle.whole.proofs.Bits.{tested}
 use Rattle.rules.specs.Plan.{version1}
 use Rattle.cell.proofs.Laws.{Number, number, is-mark, room32, lower-mark, lower-fits, lower-yes, lower-no}
 use Rattle.cell.proofs.Cell32.lower.Statement.{statement}
@@ -31,14 +32,19 @@ plus-requires c κs =
 
 returns-2 : tie.Need-returns-2
 returns-2 c k j e f =
-    let s = c .before .before .before .before .before in
-    rw (c .plus .ensures, c .before .of2 .ensures) (lower-yes room32 (cell s) (s .before .before .pre .1) (cc) k j e f)
+    let l = c .before .before .before in
+    let s = l .before .before in
+    let t = tested (l .less .ensures) (c .before .before .if2 .taken) in
+    rw (c .plus .ensures, c .before .of2 .ensures) (lower-yes room32 (cell s) (s .before .before .pre .1) (l .before .of .ensures) t k j e f)
 
 mark-requires : tie.Need-mark-requires
 mark-requires c κs = search needs
 
 returns-3 : tie.Need-returns-3
-returns-3 c k j e f = c .mark .ensures ∙ lower-no room32 (cell (c .before .before .before .before)) (cc) k j f
+returns-3 c k j e f =
+    let l = c .before .before in
+    let t = tested (l .less .ensures) (c .before .if2 .left) in
+    c .mark .ensures ∙ lower-no room32 (cell (l .before .before)) (l .before .of .ensures) t k j f
 
 pub lower-spec : {M : Type 1} → statement M
 lower-spec =

@@ -2,8 +2,8 @@
 use borrow.Author.Needs.{needs}
 use Rattle.cell.specs.Steps.{adding, cell64}
 use Rattle.cell.proofs.Laws.{Number, number, is-mark, room64, join-left, join-right, join}
-use Rattle.cell.proofs.Cell64.add.Statement.{statement}
-use Rattle.cell.proofs.Cell64.add.Tie as tie
+use Rattle.cell.proofs.wide.Cell64.add.Statement.{statement}
+use Rattle.cell.proofs.wide.Cell64.add.Tie as tie
 
 first : (c : tie.Else1) → Number adding (c .before .before .args .self .v)
 first c = number (c .before .before .args .self .v) (c .before .is-mark .ensures) (c .if1 .left) (c .before .before .pre .0)

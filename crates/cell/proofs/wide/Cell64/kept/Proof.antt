@@ -4,8 +4,8 @@ use mathlib.Core.Path.{sym, _∙_}
 use Rattle.whole.proofs.Bits.{tested}
 use Rattle.cell.specs.Steps.{adding}
 use Rattle.cell.proofs.Laws.{room64, clamp-above, clamp-below, clamp-within}
-use Rattle.cell.proofs.Cell64.kept.Statement.{statement}
-use Rattle.cell.proofs.Cell64.kept.Tie as tie
+use Rattle.cell.proofs.wide.Cell64.kept.Statement.{statement}
+use Rattle.cell.proofs.wide.Cell64.kept.Tie as tie
 
 less-requires : tie.Need-less-requires
 less-requires c κs = search needs

@@ -2,8 +2,8 @@
 use borrow.Author.Needs.{needs}
 use Rattle.whole.specs.Signed.{larger}
 use Rattle.whole.proofs.Bits.{tested}
-use Rattle.cell.proofs.Cell64.larger.Statement.{statement}
-use Rattle.cell.proofs.Cell64.larger.Tie as tie
+use Rattle.cell.proofs.wide.Cell64.larger.Statement.{statement}
+use Rattle.cell.proofs.wide.Cell64.larger.Tie as tie
 
 less-requires : tie.Need-less-requires
 less-requires c κs = search needs

@@ -6,8 +6,8 @@ use Rattle.rules.specs.Plan.{version1}
 use Rattle.rules.specs.Cells.{num}
 use Rattle.cell.specs.Steps.{adding, cell64}
 use Rattle.cell.proofs.Laws.{is-mark, no-mark, reach-mark, reach-above, reach-below, reach-within}
-use Rattle.cell.proofs.Cell64.in_reach.Statement.{statement}
-use Rattle.cell.proofs.Cell64.in_reach.Tie as tie
+use Rattle.cell.proofs.wide.Cell64.in_reach.Statement.{statement}
+use Rattle.cell.proofs.wide.Cell64.in_reach.Tie as tie
 
 cell : (c : tie.Else1) → cell64 (c .before .before .args .self .v) ≡ num (c .before .before .args .self .v)
 cell c = no-mark (adding .mark) (c .before .before .args .self .v) (c .before .is-mark .ensures) (c .if1 .left)

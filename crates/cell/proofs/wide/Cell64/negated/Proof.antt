@@ -2,8 +2,8 @@
 use mir.Syntax.{w64}
 use lib.IntN.{+ℤ-idl}
 use Rattle.whole.proofs.Bits.{back, fit, negation-is}
-use Rattle.cell.proofs.Cell64.negated.Statement.{statement}
-use Rattle.cell.proofs.Cell64.negated.Tie as tie
+use Rattle.cell.proofs.wide.Cell64.negated.Statement.{statement}
+use Rattle.cell.proofs.wide.Cell64.negated.Tie as tie
 
 sub-t2 : tie.Need-sub-t2
 sub-t2 c = simp (back (fit w64 (c .before .before .args .self .v) (c .struct-told .given .0 .1)), +ℤ-idl) (c .before .before .pre)

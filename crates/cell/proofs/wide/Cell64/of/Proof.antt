@@ -3,8 +3,8 @@ use native.Mathlib.Omega.{arith}
 use mir.Syntax.{w64}
 use Rattle.whole.proofs.Bits.{cast-pos, signed}
 use Rattle.cell.specs.Steps.{adding}
-use Rattle.cell.proofs.Cell64.of.Statement.{statement}
-use Rattle.cell.proofs.Cell64.of.Tie as tie
+use Rattle.cell.proofs.wide.Cell64.of.Statement.{statement}
+use Rattle.cell.proofs.wide.Cell64.of.Tie as tie
 
 cast-t2 : tie.Need-cast-t2
 unfolding adding

@@ -2,8 +2,8 @@
 use borrow.Author.Needs.{needs}
 use Rattle.cell.specs.Steps.{adding}
 use Rattle.cell.proofs.Laws.{Number, number, is-mark, room64, upper-mark, upper-fits, negation-fits, upper-is}
-use Rattle.cell.proofs.Cell64.upper.Statement.{statement}
-use Rattle.cell.proofs.Cell64.upper.Tie as tie
+use Rattle.cell.proofs.wide.Cell64.upper.Statement.{statement}
+use Rattle.cell.proofs.wide.Cell64.upper.Tie as tie
 
 cell : (c : tie.Else1) → Number adding (c .before .before .args .self .v)
 cell c = number (c .before .before .args .self .v) (c .before .is-mark .ensures) (c .if1 .left) (c .before .before .pre .0)

@@ -1,0 +1,37 @@
+-- `Cell64::widened` meets its contract: the mark becomes the mark, and a number keeps its value. Assumes nothing.
+use borrow.Author.Needs.{needs}
+use mathlib.Core.Path.{_≡_, sym, _∙_}
+use mir.Syntax.{w32, w64}
+use mir.Val.{SFits}
+use Rattle.whole.proofs.Bits.{signed, back, fit, kept}
+use Rattle.rules.specs.Plan.{version1}
+use Rattle.rules.specs.Cells.{num}
+use Rattle.cell.specs.Steps.{adding, cell32}
+use Rattle.cell.proofs.Laws.{is-mark, no-mark, cast-cell}
+use Rattle.cell.proofs.wide.Cell64.widened.Statement.{statement}
+use Rattle.cell.proofs.wide.Cell64.widened.Tie as tie
+
+cell : (c : tie.Else1) → cell32 (c .before .before .args .c .v) ≡ num (c .before .before .args .c .v)
+cell c = no-mark (version1 .mark) (c .before .before .args .c .v) (c .before .is-mark .ensures) (c .if1 .left)
+
+fits : (c : tie.After-struct-told) → SFits w32 (c .before .before .before .before .args .c .v)
+fits c = fit w32 (c .before .before .before .before .args .c .v) (c .struct-told .given .0 .1)
+
+is-mark-requires : tie.Need-is-mark-requires
+is-mark-requires c κs = search needs
+
+mark-requires : tie.Need-mark-requires
+mark-requires c κs = search needs
+
+returns : tie.Need-returns
+returns c = c .mark .ensures ∙ sym (is-mark (c .before .before .is-mark .ensures) (c .before .if1 .taken))
+
+cast-t3 : tie.Need-cast-t3
+cast-t3 c = rw (back (fits c)) (omega (signed, kept (fits c)))
+
+returns-2 : tie.Need-returns-2
+unfolding adding
+returns-2 c = cast-cell (adding .mark) (fits c) (omega (signed, kept (fits c))) (cell (c .before .before)) (omega (signed, kept (fits c)))
+
+pub widened-spec : {M : Type 1} → statement M
+widened-spec = tie.close (tie.spec is-mark-requires mark-requires returns cast-t3 returns-2)
