@@ -24,7 +24,8 @@ use Rattle.rules.proofs.Expansion.{basic-least, basic-given}
 use Rattle.rules.proofs.Reach.{given-most}
 use Rattle.cell.specs.Steps.{smallerᶜ, Stored, clamped}
 use Rattle.tables.specs.Sweep.{iter, lowerCell, markAll, diagonalAll, limitCell, limitAll, startAll, linkEdges, linkAll, firstStrict, firstOpen}
-use Rattle.tables.proofs.Numbers.{Clamping, above, below, inside as in-reach, clamping, ≤ᶜ-trans, smaller-left}
+use Rattle.cell.proofs.Cells.{≤ᶜ-trans, smaller-left}
+use Rattle.tables.proofs.Numbers.{Clamping, above, below, inside as in-reach, clamping}
 use Rattle.tables.specs.Table.{Sound}
 use Rattle.tables.proofs.Lowering.{Lowered, Lowers, lowered-trans, cell-lowered, after-lowering, iter-lowered, iter-keeps}
 use Rattle.tables.proofs.Steps.{LinkPoints}

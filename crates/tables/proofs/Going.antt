@@ -19,7 +19,7 @@ use Rattle.rules.proofs.Points.{Pointed, Weighted, Ends, given-ends}
 use Rattle.rules.proofs.Justified.{negative-diagonal}
 use Rattle.tables.specs.Sweep.{markAll, diagonalAll, limitAll, startAll, linkAll, firstStrict, firstOpen, sweepStrict, sweepOpen}
 use Rattle.tables.specs.Fair.{Fair, Unfair, low, negative}
-use Rattle.tables.proofs.Numbers.{≤ᶜ-trans, ≤ᶜ-antisym}
+use Rattle.cell.proofs.Cells.{≤ᶜ-trans, ≤ᶜ-antisym}
 use Rattle.tables.specs.Table.{Sound}
 use Rattle.tables.proofs.Lowering.{Lowered, lowered-trans}
 use Rattle.tables.proofs.Steps.{strict-lowers, open-sweep-lowers}

@@ -13,10 +13,11 @@ use Rattle.whole.proofs.Place.{inside, after-write}
 use Rattle.rules.specs.Plan.{Ranges, Coherent}
 use Rattle.rules.proofs.Lists.{same-list}
 use Rattle.rules.specs.Cells.{Cell, _≤ᶜ_, cellOf, tableOf}
-use Rattle.cell.specs.Steps.{smallerᶜ, Stored, clamped}
+use Rattle.cell.specs.Steps.{smallerᶜ, Stored, clamped, numberOf}
 use Rattle.tables.specs.Table.{Sound}
-use Rattle.tables.specs.Sweep.{iter, numberOf, lowerCell}
-use Rattle.tables.proofs.Numbers.{cell-of-number, ≤ᶜ-refl, ≤ᶜ-trans, ≤ᶜ-antisym, smaller-left, smaller-right, smaller-keeps, clamped-stored}
+use Rattle.tables.specs.Sweep.{iter, lowerCell}
+use Rattle.cell.proofs.Cells.{≤ᶜ-refl, ≤ᶜ-trans, ≤ᶜ-antisym, smaller-left, smaller-right, clamped-stored}
+use Rattle.tables.proofs.Numbers.{cell-of-number, smaller-keeps}
 
 -- u is t with cells lowered
 pub record Lowered (r : Ranges) (n : ℕ) (t u : List ℤ) : Type 0 where
@@ -58,7 +59,7 @@ module _ (r : Ranges) (h : Coherent r) (n : ℕ) where
       smaller-keeps (Stored (r .reach)) (clamped (r .reach) c) (tableOf r n t x y) (clamped-stored (r .reach) c) (s .stored x y hx hy) in
       ⊎-elim (λ e. inl (e .0, ap (cellOf (r .mark)) (e .1) ∙ cell-of-number r h new stored))
       (λ e. inr (e .0, ap (cellOf (r .mark)) (e .1)))
-      (after-write t (numberOf r new) (pos zero) hx′ hy′ hx hy (s .room))
+      (after-write t (numberOf (r .mark) new) (pos zero) hx′ hy′ hx hy (s .room))
 
   -- what holds of every cell and of the lowered one holds of every cell after
   pub lowering-keeps : (P : ℕ → ℕ → Cell → Type 0) (x y : ℕ) (c : Cell) (t : List ℤ) → Sound r n t → x < n → y < n
@@ -74,13 +75,13 @@ module _ (r : Ranges) (h : Coherent r) (n : ℕ) where
       let old : Cell = tableOf r n t x y in
       let new : Cell = smallerᶜ (clamped (r .reach) c) old in
       record {
-        same-length = length-set t (x * n + y) (numberOf r new);
-        beyond = λ i k. getD-set-other t (x * n + y) i (numberOf r new) (pos zero) (omega (arith, inside hx hy));
+        same-length = length-set t (x * n + y) (numberOf (r .mark) new);
+        beyond = λ i k. getD-set-other t (x * n + y) i (numberOf (r .mark) new) (pos zero) (omega (arith, inside hx hy));
         down =
             lowering-keeps (λ x′ y′ d. d ≤ᶜ tableOf r n t x′ y′) x y c t s hx hy (smaller-right (clamped (r .reach) c) old)
             (λ x′ y′ hx′ hy′. ≤ᶜ-refl (tableOf r n t x′ y′));
         sound = record {
-          room = omega (arith, s .room, length-set t (x * n + y) (numberOf r new));
+          room = omega (arith, s .room, length-set t (x * n + y) (numberOf (r .mark) new));
           stored =
               lowering-keeps (λ x′ y′ d. Stored (r .reach) d) x y c t s hx hy
               (smaller-keeps (Stored (r .reach)) (clamped (r .reach) c) old (clamped-stored (r .reach) c) (s .stored x y hx hy)) (s .stored);

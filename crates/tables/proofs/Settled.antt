@@ -27,7 +27,8 @@ use Rattle.rules.proofs.Justified.{Justified, justified-closed, negative-diagon
 use Rattle.rules.proofs.Settled.{top, as-open}
 use Rattle.cell.specs.Steps.{clamped}
 use Rattle.tables.specs.Sweep.{lowerAll, upperAll, caseAll, sweepStrict, sweepOpen}
-use Rattle.tables.proofs.Numbers.{Clamping, above, below, inside, clamping, ≤ᶜ-trans}
+use Rattle.cell.proofs.Cells.{≤ᶜ-trans}
+use Rattle.tables.proofs.Numbers.{Clamping, above, below, inside, clamping}
 use Rattle.tables.specs.Table.{Sound}
 use Rattle.tables.proofs.Steps.{LinkPoints, joins-fixed, lower-fixed, upper-fixed, open-fixed, case-fixed, strict-fixed, open-sweep-fixed}
 use Rattle.tables.proofs.Walked.{Has, has-sum, has-lowered, has-uppered, has-open, Walked, PlanLinks}

@@ -10,10 +10,10 @@ use lib.Seq.{set-getD}
 use lib.IntN.{ℤ, pos}
 use Rattle.rules.specs.Plan.{Ranges, Coherent}
 use Rattle.rules.specs.Cells.{Cell, mark, num, _+ᶜ_, cellOf, tableOf}
-use Rattle.cell.specs.Steps.{smallerᶜ, Stored, clamped}
+use Rattle.cell.specs.Steps.{smallerᶜ, Stored, clamped, numberOf}
 use Rattle.tables.specs.Table.{Sound}
-use Rattle.tables.specs.Sweep.{iter, numberOf, lowerCell, joinCell, joinRow}
-use Rattle.tables.proofs.Numbers.{number-of-cell}
+use Rattle.tables.specs.Sweep.{iter, lowerCell, joinCell, joinRow}
+use Rattle.cell.proofs.Cells.{number-back}
 use Rattle.tables.proofs.Lowering.{Lowered, Lowers, lowered-refl, lowered-trans, iter-lowered}
 
 -- a cell read, the new one stored if it is smaller, and written: one lowering
@@ -24,8 +24,8 @@ unfolding lowerCell tableOf
 lowering-is r n x y c t u old kept new eo ek en eu =
     let cell : cellOf (r .mark) new ≡ smallerᶜ (clamped (r .reach) c) (tableOf r n t x y) =
     rw (en, ek, eo) in
-    let number : new ≡ numberOf r (smallerᶜ (clamped (r .reach) c) (tableOf r n t x y)) =
-    sym (number-of-cell r new) ∙ ap (numberOf r) cell in
+    let number : new ≡ numberOf (r .mark) (smallerᶜ (clamped (r .reach) c) (tableOf r n t x y)) =
+    sym (number-back (r .mark) new) ∙ ap (numberOf (r .mark)) cell in
     eu ∙ ap (set t (x * n + y)) number
 
 -- a number read out of a table is one that a sweep stores
@@ -55,7 +55,7 @@ join-row-is r n y x t u a ea eu = eu ∙ ap (λ (d : Cell). iter (joinCell r n y
 -- lowering a cell to the mark changes nothing
 pub lowering-to-mark : (r : Ranges) (n x y : ℕ) (t : List ℤ) → lowerCell r n x y mark t ≡ t
 unfolding lowerCell tableOf
-lowering-to-mark r n x y t = ap (set t (x * n + y)) (number-of-cell r (getD t (x * n + y) (pos zero))) ∙ set-getD t (x * n + y) (pos zero)
+lowering-to-mark r n x y t = ap (set t (x * n + y)) (number-back (r .mark) (getD t (x * n + y) (pos zero))) ∙ set-getD t (x * n + y) (pos zero)
 
 -- a row whose cell to the middle is the mark stays as it is
 pub row-at-mark : (r : Ranges) (n y x : ℕ) (t : List ℤ) → tableOf r n t x y ≡ mark → joinRow r n y x t ≡ t

@@ -10,21 +10,16 @@ use lib.IntN.{ℤ, pos, negℤ, _+ℤ_}
 use Rattle.whole.specs.Signed.{up}
 use Rattle.rules.specs.Plan.{Limit, Link, Ranges}
 use Rattle.rules.specs.Cells.{Cell, mark, num, _+ᶜ_, lowered, uppered, cellOf, tableOf}
-use Rattle.cell.specs.Steps.{smallerᶜ, clamped}
+use Rattle.cell.specs.Steps.{smallerᶜ, clamped, numberOf}
 
 -- a step for each number below m, in their order
 abbrev pub iter : (ℕ → List ℤ → List ℤ) → ℕ → List ℤ → List ℤ
 iter f zero t = t
 iter f (suc m) t = f m (iter f m t)
 
--- how a cell lies in a list
-abbrev pub numberOf : Ranges → Cell → ℤ
-numberOf r mark = pos (r .mark)
-numberOf r (num c) = c
-
 -- the cell x to y lowered to c, as a sweep stores it, where that is smaller
 unfoldable pub lowerCell : Ranges → ℕ → ℕ → ℕ → Cell → List ℤ → List ℤ
-lowerCell r n x y c t = set t (x * n + y) (numberOf r (smallerᶜ (clamped (r .reach) c) (tableOf r n t x y)))
+lowerCell r n x y c t = set t (x * n + y) (numberOf (r .mark) (smallerᶜ (clamped (r .reach) c) (tableOf r n t x y)))
 
 -- ---- Join
 
