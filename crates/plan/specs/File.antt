@@ -1,0 +1,113 @@
+-- Document 01, "Numbers returned", codes 1 to 8: what the reader answers to any bytes, and what a plan file is.
+-- Assumes nothing.
+use mathlib.Core.Path.{_≡_}
+use mathlib.Core.Bool.{Bool, true, false, not, cond, _&&_}
+use mathlib.Core.List.{List, [], _∷_}
+use Prim.Native.Nat.{ℕ, zero, suc, _≤_}
+use lib.Dec.{leb, ltb, eqb}
+use lib.ListN.{length}
+use lib.IntN.{pos, negℤ}
+use lib.Signed.{leZ}
+use Rattle.rules.specs.Plan.{Limit, Link, Plan, Ranges, version1, InRange}
+use Rattle.rules.specs.Answers.{codeOf}
+use Rattle.rules.specs.declared.Answer.{Answer}
+use Rattle.rules.specs.declared.Answer.the-variants.{Done, FewBytes, BadVersion, BadPoints, BadCounts, BadLayout, BadLimit, BadLink, RepeatedLink}
+use Rattle.plan.specs.declared.Header.{Header}
+use Rattle.plan.specs.Layout.{headOf, limitOffset, linkOffset, planOf}
+
+-- the first refusal of two answers, in their order
+infixr 20 _then_
+abbrev pub _then_ : Answer → Answer → Answer
+a then b = cond (eqb (codeOf a) 0) b a
+
+-- a refusal, unless a test holds
+abbrev pub unless : Bool → Answer → Answer
+unless true refusal = Done
+unless false refusal = refusal
+
+-- "The order is 1 to 5": the answer to a file of so many bytes with such a header
+unfoldable pub headAnswer : ℕ → Header → Answer
+headAnswer size h =
+    unless (leb 24 size) FewBytes
+    then unless (eqb (h .version) 1) BadVersion
+    then unless (leb 1 (h .points) && leb (h .points) (version1 .points)) BadPoints
+    then unless (leb (h .limits) (version1 .limits) && leb (h .links) (version1 .links)) BadCounts
+    then unless
+      (eqb (h .«limits_at») (limitOffset 0) && eqb (h .«links_at») (limitOffset (h .limits)) && eqb size (linkOffset (h .limits) (h .links)))
+      BadLayout
+
+-- "every point named is below n", "w from -1,000,000 to 1,000,000"
+unfoldable pub limitFits : Ranges → ℕ → Limit → Bool
+limitFits r n m =
+    ltb (m .from) n && ltb (m .to) n && leZ (negℤ (pos (r .weight))) (m .weight) && leZ (m .weight) (pos (r .weight))
+
+-- "1 <= l < u <= 1,000,000", "A differs from C, C is not 0"
+unfoldable pub linkFits : Ranges → ℕ → Link → Bool
+linkFits r n k =
+    ltb (k .act) n
+    && ltb (k .con) n
+    && not (eqb (k .act) (k .con))
+    && not (eqb (k .con) 0)
+    && leb 1 (k .short)
+    && ltb (k .short) (k .long)
+    && leb (k .long) (r .weight)
+
+-- whether a link's contingent point is none of these links'
+abbrev pub fresh : Link → List Link → Bool
+fresh k [] = true
+fresh k (j ∷ js) = not (eqb (j .con) (k .con)) && fresh k js
+
+-- "a limit out of range; place: index of the first"
+abbrev pub limitPlace : ℕ → ℕ
+limitPlace i = i
+
+-- "a link out of range; place: index", "a link repeats an earlier contingent point; place: the later index"
+abbrev pub linkPlace : ℕ → ℕ
+linkPlace i = i
+
+-- the answer to one limit, at index i
+abbrev pub limitAnswer : Ranges → ℕ → ℕ → Limit → Answer
+limitAnswer r n i m = unless (limitFits r n m) (BadLimit (limitPlace i))
+
+-- "limits in file order": the answer to limits from index i on
+abbrev pub limitsAnswer : Ranges → ℕ → ℕ → List Limit → Answer
+limitsAnswer r n i [] = Done
+limitsAnswer r n i (m ∷ ms) = limitAnswer r n i m then limitsAnswer r n (suc i) ms
+
+-- the answer to one link, at index i: "tested for 7 and then 8"
+abbrev pub linkAnswer : Ranges → ℕ → ℕ → List Link → Link → Answer
+linkAnswer r n i earlier k =
+    unless (linkFits r n k) (BadLink (linkPlace i)) then unless (fresh k earlier) (RepeatedLink (linkPlace i))
+
+-- "links in file order": the answer to links from index i on, after the earlier ones
+abbrev pub linksAnswer : Ranges → ℕ → ℕ → List Link → List Link → Answer
+linksAnswer r n i earlier [] = Done
+linksAnswer r n i earlier (k ∷ ks) = linkAnswer r n i earlier k then linksAnswer r n (suc i) (k ∷ earlier) ks
+
+-- codes 1 to 8 of a plan file: the header, the limits, the links
+unfoldable pub fileAnswer : List ℕ → Answer
+fileAnswer s =
+    headAnswer (length s) (headOf s)
+    then limitsAnswer version1 (planOf s .points) 0 (planOf s .limits)
+    then linksAnswer version1 (planOf s .points) 0 [] (planOf s .links)
+
+-- codes 1 to 8 of Add: "limits in file order, then Add's limit; links in file order", and the place "for the limit handed to Add: m"
+unfoldable pub addAnswer : List ℕ → Limit → Answer
+addAnswer s added =
+    headAnswer (length s) (headOf s)
+    then limitsAnswer version1 (planOf s .points) 0 (planOf s .limits)
+    then limitAnswer version1 (planOf s .points) (headOf s .limits) added
+    then linksAnswer version1 (planOf s .points) 0 [] (planOf s .links)
+
+-- what a plan file is: "Plan file" of the paper, sentence by sentence
+pub record PlanFile (s : List ℕ) : Type 0 where
+  -- "The header .., 24 bytes: version (1)"
+  pub header : 24 ≤ length s
+  pub version : headOf s .version ≡ 1
+  -- "Limits follow at 24", "Links follow at 24 + 12m"
+  pub limits-at : headOf s .«limits_at» ≡ limitOffset 0
+  pub links-at : headOf s .«links_at» ≡ limitOffset (headOf s .limits)
+  -- "The file is exactly 24 + 12m + 16k bytes."
+  pub size : length s ≡ linkOffset (headOf s .limits) (headOf s .links)
+  -- "Ranges: .."
+  pub ranges : InRange version1 (planOf s)

@@ -1,0 +1,4 @@
+-- The plan file as definitions: its bytes, its layout, and the answer to it.
+pub mod Bytes
+pub mod Layout
+pub mod File
