@@ -25,16 +25,27 @@ abbrev pub unless : Bool → Answer → Answer
 unless true refusal = Done
 unless false refusal = refusal
 
+-- "n 1 to 64"
+abbrev pub pointsFit : Ranges → ℕ → Bool
+pointsFit r n = leb 1 n && leb n (r .points)
+
+-- "m 0 to 1,024; k 0 to 32"
+abbrev pub countsFit : Ranges → ℕ → ℕ → Bool
+countsFit r m k = leb m (r .limits) && leb k (r .links)
+
+-- "Limits follow at 24", "Links follow at 24 + 12m", "The file is exactly 24 + 12m + 16k bytes."
+abbrev pub laidOut : ℕ → Header → Bool
+laidOut size h =
+    eqb (h .«limits_at») (limitOffset 0) && eqb (h .«links_at») (limitOffset (h .limits)) && eqb size (linkOffset (h .limits) (h .links))
+
 -- "The order is 1 to 5": the answer to a file of so many bytes with such a header
 unfoldable pub headAnswer : ℕ → Header → Answer
 headAnswer size h =
     unless (leb 24 size) FewBytes
     then unless (eqb (h .version) 1) BadVersion
-    then unless (leb 1 (h .points) && leb (h .points) (version1 .points)) BadPoints
-    then unless (leb (h .limits) (version1 .limits) && leb (h .links) (version1 .links)) BadCounts
-    then unless
-      (eqb (h .«limits_at») (limitOffset 0) && eqb (h .«links_at») (limitOffset (h .limits)) && eqb size (linkOffset (h .limits) (h .links)))
-      BadLayout
+    then unless (pointsFit version1 (h .points)) BadPoints
+    then unless (countsFit version1 (h .limits) (h .links)) BadCounts
+    then unless (laidOut size h) BadLayout
 
 -- "every point named is below n", "w from -1,000,000 to 1,000,000"
 unfoldable pub limitFits : Ranges → ℕ → Limit → Bool

@@ -1,8 +1,39 @@
 // The plan file: from lent bytes to the paper's plan, with nothing copied. Every call here is total: it takes any bytes.
 // What each answers is said by the definitions of specs/, which follow the paper.
+mod answer;
+mod field;
+mod fits;
+mod record;
+
+pub use answer::accepted;
+pub use answer::code;
+pub use answer::place;
+pub use field::signed_at;
+pub use field::unsigned_at;
+pub use record::head;
+pub use record::limit_at;
+pub use record::link_at;
 ghost use mathlib.Core.Path.{_≡_};
-ghost use Prim.Native.Nat.{_+_};
-ghost use Rattle.plan.specs.Bytes.{byteAt, wordOf, wordAt, signedOf, signedAt};
+ghost use Rattle.plan.specs.File.{headAnswer};
+use fits::counts_fit;
+use fits::laid_out;
+use fits::points_fit;
+use rules::Answer;
+
+// A limit: point `to` comes at most `weight` after point `from`.
+pub struct Limit {
+    pub from: u32,
+    pub to: u32,
+    pub weight: i32,
+}
+
+// A link: its activation, its contingent point, its shortest and its longest duration.
+pub struct Link {
+    pub act: u32,
+    pub con: u32,
+    pub short: u32,
+    pub long: u32,
+}
 
 // The header's fields, in the file's order.
 pub struct Header {
@@ -14,53 +45,24 @@ pub struct Header {
     pub links_at: u32,
 }
 
-// The byte i places after a position; past the end it counts as 0.
-fn byte_at(file: &[u8], at: usize, i: usize) -> u8
-    ensures { λ r. ⌜ r ≡ byteAt (now (file .entry)) (at + i) ⌝ }
+// Codes 1 to 5, of a file of so many bytes with such a header.
+fn head_answer(size: usize, h: Header) -> Answer
+    ensures { λ r. ⌜ r ≡ headAnswer size h ⌝ }
 {
-    let size = file.len();
-    if size <= at {
-        return 0;
+    if size < 24 {
+        return Answer::FewBytes;
     }
-    if size - at <= i {
-        return 0;
+    if h.version != 1 {
+        return Answer::BadVersion;
     }
-    file[at + i]
-}
-
-// The unsigned number of four bytes, the lowest first.
-fn word(a: u8, b: u8, c: u8, d: u8) -> u32
-    ensures { λ r. ⌜ r ≡ wordOf a b c d ⌝ }
-{
-    (a as u32) + 256 * (b as u32) + 65_536 * (c as u32) + 16_777_216 * (d as u32)
-}
-
-// The signed number that 32 bits stand for.
-fn signed(w: u32) -> i32
-    ensures { λ r. ⌜ r ≡ signedOf w ⌝ }
-{
-    if w < 2_147_483_648 {
-        w as i32
-    } else {
-        -1 - ((4_294_967_295 - w) as i32)
+    if !points_fit(h.points) {
+        return Answer::BadPoints;
     }
-}
-
-// The unsigned field at a position.
-pub fn unsigned_at(file: &[u8], at: usize) -> u32
-    ensures { λ r. ⌜ r ≡ wordAt (now (file .entry)) at ⌝ }
-{
-    word(
-        byte_at(file, at, 0),
-        byte_at(file, at, 1),
-        byte_at(file, at, 2),
-        byte_at(file, at, 3),
-    )
-}
-
-// The signed field at a position.
-pub fn signed_at(file: &[u8], at: usize) -> i32
-    ensures { λ r. ⌜ r ≡ signedAt (now (file .entry)) at ⌝ }
-{
-    signed(unsigned_at(file, at))
+    if !counts_fit(h.limits, h.links) {
+        return Answer::BadCounts;
+    }
+    if !laid_out(size, h) {
+        return Answer::BadLayout;
+    }
+    Answer::Done
 }

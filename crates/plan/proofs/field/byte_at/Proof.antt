@@ -2,10 +2,10 @@ use mathlib.Core.Path.{sym}
 use borrow.Author.Needs.{needs}
 use native.Mathlib.Omega.{arith}
 use lib.ListN.{List·getD-eq-default}
-use Rattle.plan.proofs.byte_at.Statement.{statement}
-use Rattle.plan.proofs.byte_at.Tie as tie
-use Rattle.plan.proofs.byte_at.Reads as reads
-use Rattle.plan.proofs.byte_at.Lts as lts
+use Rattle.plan.proofs.field.byte_at.Statement.{statement}
+use Rattle.plan.proofs.field.byte_at.Tie as tie
+use Rattle.plan.proofs.field.byte_at.Reads as reads
+use Rattle.plan.proofs.field.byte_at.Lts as lts
 
 -- src/lib.rt:23:9
 returns : tie.Need-returns

@@ -3,12 +3,12 @@ use borrow.Author.Needs.{needs, sfits-of}
 use mir.Syntax.{w32}
 use mir.ValLaws.{toZ-ofZ}
 use Rattle.plan.specs.Bytes.{signedAt, signedOf}
-use Rattle.plan.proofs.signed_at.Statement.{statement}
-use Rattle.plan.proofs.signed_at.Tie as tie
-use Rattle.plan.proofs.signed_at.Reads as reads
-use Rattle.plan.proofs.signed_at.Lts as lts
-use Rattle.plan.proofs.signed.Reads as signed-reads
-use Rattle.plan.proofs.unsigned_at.Reads as unsigned-at-reads
+use Rattle.plan.proofs.field.signed_at.Statement.{statement}
+use Rattle.plan.proofs.field.signed_at.Tie as tie
+use Rattle.plan.proofs.field.signed_at.Reads as reads
+use Rattle.plan.proofs.field.signed_at.Lts as lts
+use Rattle.plan.proofs.field.signed.Reads as signed-reads
+use Rattle.plan.proofs.field.unsigned_at.Reads as unsigned-at-reads
 
 -- src/lib.rt:65:12
 unsigned-at-requires : tie.Need-unsigned-at-requires

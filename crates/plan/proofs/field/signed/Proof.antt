@@ -6,10 +6,10 @@ use lib.IntN.{negsuc}
 use mir.Syntax.{w32}
 use mir.ValLaws.{toZ-ofZ}
 use Rattle.plan.proofs.Fields.{signed-low, signed-high, from-below}
-use Rattle.plan.proofs.signed.Statement.{statement}
-use Rattle.plan.proofs.signed.Tie as tie
-use Rattle.plan.proofs.signed.Reads as reads
-use Rattle.plan.proofs.signed.Lts as lts
+use Rattle.plan.proofs.field.signed.Statement.{statement}
+use Rattle.plan.proofs.field.signed.Tie as tie
+use Rattle.plan.proofs.field.signed.Reads as reads
+use Rattle.plan.proofs.field.signed.Lts as lts
 
 -- src/lib.rt:43:9
 cast-result : tie.Need-cast-result

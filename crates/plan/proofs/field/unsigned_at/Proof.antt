@@ -1,12 +1,12 @@
 use borrow.Author.Needs.{needs}
 use native.Mathlib.Nat.{add-zero}
 use Rattle.plan.specs.Bytes.{wordAt}
-use Rattle.plan.proofs.unsigned_at.Statement.{statement}
-use Rattle.plan.proofs.unsigned_at.Tie as tie
-use Rattle.plan.proofs.unsigned_at.Reads as reads
-use Rattle.plan.proofs.unsigned_at.Lts as lts
-use Rattle.plan.proofs.byte_at.Reads as byte-at-reads
-use Rattle.plan.proofs.word.Reads as word-reads
+use Rattle.plan.proofs.field.unsigned_at.Statement.{statement}
+use Rattle.plan.proofs.field.unsigned_at.Tie as tie
+use Rattle.plan.proofs.field.unsigned_at.Reads as reads
+use Rattle.plan.proofs.field.unsigned_at.Lts as lts
+use Rattle.plan.proofs.field.byte_at.Reads as byte-at-reads
+use Rattle.plan.proofs.field.word.Reads as word-reads
 
 -- src/lib.rt:54:9
 byte-at-requires : tie.Need-byte-at-requires
