@@ -63,10 +63,10 @@ linkFits r n k =
     && ltb (k .short) (k .long)
     && leb (k .long) (r .weight)
 
--- whether a link's contingent point is none of these links'
-abbrev pub fresh : Link → List Link → Bool
-fresh k [] = true
-fresh k (j ∷ js) = not (eqb (j .con) (k .con)) && fresh k js
+-- whether a point is the contingent point of none of these links
+abbrev pub fresh : ℕ → List Link → Bool
+fresh c [] = true
+fresh c (k ∷ ks) = not (eqb (k .con) c) && fresh c ks
 
 -- "a limit out of range; place: index of the first"
 abbrev pub limitPlace : ℕ → ℕ
@@ -88,7 +88,7 @@ limitsAnswer r n i (m ∷ ms) = limitAnswer r n i m then limitsAnswer r n (suc i
 -- the answer to one link, at index i: "tested for 7 and then 8"
 abbrev pub linkAnswer : Ranges → ℕ → ℕ → List Link → Link → Answer
 linkAnswer r n i earlier k =
-    unless (linkFits r n k) (BadLink (linkPlace i)) then unless (fresh k earlier) (RepeatedLink (linkPlace i))
+    unless (linkFits r n k) (BadLink (linkPlace i)) then unless (fresh (k .con) earlier) (RepeatedLink (linkPlace i))
 
 -- "links in file order": the answer to links from index i on, after the earlier ones
 abbrev pub linksAnswer : Ranges → ℕ → ℕ → List Link → List Link → Answer

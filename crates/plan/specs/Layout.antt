@@ -51,6 +51,11 @@ abbrev pub records : {A : Type 0} → (ℕ → A) → ℕ → ℕ → List A
 records f i zero = []
 records f i (suc left) = f i ∷ records f (suc i) left
 
+-- the records before index i, the last first
+abbrev pub earlier : {A : Type 0} → (ℕ → A) → ℕ → List A
+earlier f zero = []
+earlier f (suc i) = f i ∷ earlier f i
+
 -- the plan that the bytes hold: its points, its m limits and its k links
 unfoldable pub planOf : List ℕ → Plan
 planOf s =

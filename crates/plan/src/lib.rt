@@ -4,6 +4,7 @@ mod answer;
 mod field;
 mod fits;
 mod record;
+mod scan;
 
 pub use answer::accepted;
 pub use answer::code;
