@@ -65,7 +65,7 @@ module _ (r : Ranges) (n : ℕ) (f : ℕ → Link) (i k : ℕ) (h : i < k) (x : 
 
   module _ (u : not b ≡ false) (d : Bool) (v : d ≡ fresh (x .con) (earlier f i)) where
     pub links-next : not d ≡ false
-      → linksAnswer r n i (earlier f i) (records f i (k - i)) ≡ linksAnswer r n (i + 1) (earlier f (i + 1)) (records f (i + 1) (k - (i + 1)))
+        → linksAnswer r n i (earlier f i) (records f i (k - i)) ≡ linksAnswer r n (i + 1) (earlier f (i + 1)) (records f (i + 1) (k - (i + 1)))
     links-next w = rw (records-next f i k h, ← e, passed b t u, passed d v w, add-one) (ap (λ (y : Link). linksAnswer r n (suc i) (y ∷ earlier f i) (records f (suc i) (k - suc i))) e)
 
     pub links-repeat : not d ≡ true → linksAnswer r n i (earlier f i) (records f i (k - i)) ≡ RepeatedLink (linkPlace i)

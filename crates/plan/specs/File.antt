@@ -95,18 +95,18 @@ abbrev pub linksAnswer : Ranges → ℕ → ℕ → List Link → List Link → 
 linksAnswer r n i earlier [] = Done
 linksAnswer r n i earlier (k ∷ ks) = linkAnswer r n i earlier k then linksAnswer r n (suc i) (k ∷ earlier) ks
 
--- codes 1 to 8 of a plan file: the header, the limits, the links
-unfoldable pub fileAnswer : List ℕ → Answer
-fileAnswer s =
-    headAnswer (length s) (headOf s)
-    then limitsAnswer version1 (planOf s .points) 0 (planOf s .limits)
-    then linksAnswer version1 (planOf s .points) 0 [] (planOf s .links)
+-- "The order is 1 to 5; limits in file order"
+unfoldable pub frontAnswer : List ℕ → Answer
+frontAnswer s = headAnswer (length s) (headOf s) then limitsAnswer version1 (planOf s .points) 0 (planOf s .limits)
 
--- codes 1 to 8 of Add: "limits in file order, then Add's limit; links in file order", and the place "for the limit handed to Add: m"
+-- codes 1 to 8 of a file: the links come last
+unfoldable pub fileAnswer : List ℕ → Answer
+fileAnswer s = frontAnswer s then linksAnswer version1 (planOf s .points) 0 [] (planOf s .links)
+
+-- codes 1 to 8 of Add: "limits in file order, then Add's limit; links in file order"; "for the limit handed to Add: m"
 unfoldable pub addAnswer : List ℕ → Limit → Answer
 addAnswer s added =
-    headAnswer (length s) (headOf s)
-    then limitsAnswer version1 (planOf s .points) 0 (planOf s .limits)
+    frontAnswer s
     then limitAnswer version1 (planOf s .points) (headOf s .limits) added
     then linksAnswer version1 (planOf s .points) 0 [] (planOf s .links)
 

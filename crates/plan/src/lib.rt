@@ -15,11 +15,14 @@ pub use record::head;
 pub use record::limit_at;
 pub use record::link_at;
 ghost use mathlib.Core.Path.{_≡_};
-ghost use Rattle.plan.specs.File.{headAnswer};
+ghost use Rattle.plan.specs.File.{headAnswer, frontAnswer, fileAnswer, addAnswer};
 use fits::counts_fit;
 use fits::laid_out;
+use fits::limit_fits;
 use fits::points_fit;
 use rules::Answer;
+use scan::limits;
+use scan::links;
 
 // A limit: point `to` comes at most `weight` after point `from`.
 pub struct Limit {
@@ -66,4 +69,48 @@ fn head_answer(size: usize, h: Header) -> Answer
         return Answer::BadLayout;
     }
     Answer::Done
+}
+
+// Codes 1 to 6: the header and the limits.
+fn front(file: &[u8]) -> Answer
+    ensures { λ r. ⌜ r ≡ frontAnswer (now (file .entry)) ⌝ }
+{
+    let h = head(file);
+    let a = head_answer(file.len(), h);
+    if !accepted(a) {
+        return a;
+    }
+    limits(file, h.points, h.limits)
+}
+
+// Whether any bytes are a plan file: codes 1 to 8, in the paper's order.
+pub fn sound(file: &[u8]) -> Answer
+    ensures { λ r. ⌜ r ≡ fileAnswer (now (file .entry)) ⌝ }
+{
+    let a = front(file);
+    if !accepted(a) {
+        return a;
+    }
+    let h = head(file);
+    links(file, h.points, h.limits, h.links)
+}
+
+// The same with the limit that is handed to Add, which is tested between the file's limits and its links.
+pub fn sound_with(file: &[u8], x: u32, y: u32, w: i32) -> Answer
+    ensures { λ r. ⌜ r ≡ addAnswer (now (file .entry)) (record { from = x; to = y; weight = w }) ⌝ }
+{
+    let a = front(file);
+    if !accepted(a) {
+        return a;
+    }
+    let h = head(file);
+    let added = Limit {
+        from: x,
+        to: y,
+        weight: w,
+    };
+    if !limit_fits(h.points, added) {
+        return Answer::BadLimit(h.limits);
+    }
+    links(file, h.points, h.limits, h.links)
 }

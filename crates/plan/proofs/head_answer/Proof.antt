@@ -1,56 +1,44 @@
+-- `head_answer` meets its contract: at each `return` the tests that led there say which answer of `headAnswer` it is.
+-- Assumes nothing.
 use borrow.Author.Needs.{needs}
 use borrow.Author.Tests.{le-leb, lt-leb, eq-eqb, ne-eqb}
 use Rattle.plan.proofs.Tests.{failed, passed}
 use Rattle.plan.specs.File.{headAnswer}
 use Rattle.plan.proofs.head_answer.Statement.{statement}
 use Rattle.plan.proofs.head_answer.Tie as tie
-use Rattle.plan.proofs.head_answer.Reads as reads
-use Rattle.plan.proofs.head_answer.Lts as lts
-use Rattle.plan.proofs.fits.counts_fit.Reads as counts-fit-reads
-use Rattle.plan.proofs.fits.laid_out.Reads as laid-out-reads
-use Rattle.plan.proofs.fits.points_fit.Reads as points-fit-reads
 
--- src/lib.rt:173:9
 returns : tie.Need-returns
 unfolding headAnswer
 returns c = simp (lt-leb _ _ (c .if1 .taken))
 
--- src/lib.rt:176:9
 returns-2 : tie.Need-returns-2
 unfolding headAnswer
 returns-2 c = simp (le-leb _ _ (c .before .before .if1 .left), ne-eqb _ _ (c .if2 .taken))
 
--- src/lib.rt:178:9
 points-fit-requires : tie.Need-points-fit-requires
 points-fit-requires c κs = search needs
 
--- src/lib.rt:179:9
 returns-3 : tie.Need-returns-3
 unfolding headAnswer
 returns-3 c =
     simp (le-leb _ _ (c .before .before .before .before .if1 .left), eq-eqb _ _ (c .before .before .if2 .left), failed (c .before .points-fit .result) (c .before .points-fit .ensures) (c .if3 .taken))
 
--- src/lib.rt:181:9
 counts-fit-requires : tie.Need-counts-fit-requires
 counts-fit-requires c κs = search needs
 
--- src/lib.rt:182:9
 returns-4 : tie.Need-returns-4
 unfolding headAnswer
 returns-4 c =
     simp (le-leb _ _ (c .before .before .before .before .before .before .if1 .left), eq-eqb _ _ (c .before .before .before .before .if2 .left), passed (c .before .before .before .points-fit .result) (c .before .before .before .points-fit .ensures) (c .before .before .if3 .left), failed (c .before .counts-fit .result) (c .before .counts-fit .ensures) (c .if4 .taken))
 
--- src/lib.rt:184:9
 laid-out-requires : tie.Need-laid-out-requires
 laid-out-requires c κs = search needs
 
--- src/lib.rt:185:9
 returns-5 : tie.Need-returns-5
 unfolding headAnswer
 returns-5 c =
     simp (le-leb _ _ (c .before .before .before .before .before .before .before .before .if1 .left), eq-eqb _ _ (c .before .before .before .before .before .before .if2 .left), passed (c .before .before .before .before .before .points-fit .result) (c .before .before .before .before .before .points-fit .ensures) (c .before .before .before .before .if3 .left), passed (c .before .before .before .counts-fit .result) (c .before .before .before .counts-fit .ensures) (c .before .before .if4 .left), failed (c .before .laid-out .result) (c .before .laid-out .ensures) (c .if5 .taken))
 
--- src/lib.rt:169:1
 returns-6 : tie.Need-returns-6
 unfolding headAnswer
 returns-6 c =

@@ -1,3 +1,5 @@
+-- `field::signed` meets its contract, a half at a time.
+-- Assumes nothing.
 use mathlib.Core.Path.{sym, _∙_}
 use Prim.Native.Nat.{_≤_, _<_, _-_}
 use native.Mathlib.Omega.{arith}
@@ -8,33 +10,25 @@ use mir.ValLaws.{toZ-ofZ}
 use Rattle.plan.proofs.Fields.{signed-low, signed-high, from-below}
 use Rattle.plan.proofs.field.signed.Statement.{statement}
 use Rattle.plan.proofs.field.signed.Tie as tie
-use Rattle.plan.proofs.field.signed.Reads as reads
-use Rattle.plan.proofs.field.signed.Lts as lts
 
--- src/lib.rt:43:9
 cast-result : tie.Need-cast-result
 cast-result c = search needs
 
--- src/lib.rt:45:16
 sub-result : tie.Need-sub-result
 sub-result c = search needs
 
--- src/lib.rt:45:15
 cast-result-2 : tie.Need-cast-result-2
 cast-result-2 c = search needs
 
--- src/lib.rt:45:9
 sub-result-2 : tie.Need-sub-result-2
 sub-result-2 c =
     let h : 2_147_483_648 ≤ c .before .args .w = omega arith in
     let l : c .before .args .w < 4_294_967_296 = omega arith in
     rw (from-below (c .before .args .w) h l) (sfits-of (omega arith))
 
--- src/lib.rt:39:1
 returns : tie.Need-returns
 returns c = signed-low (c .before .args .w) (omega arith)
 
--- src/lib.rt:39:1
 returns-2 : tie.Need-returns-2
 returns-2 c =
     let h : 2_147_483_648 ≤ c .before .args .w = omega arith in

@@ -1,3 +1,5 @@
+-- `fits::limit_fits` meets its contract: the code's numbers are those of version 1, and a weight is read back from its bits.
+-- Assumes nothing.
 use borrow.Author.Needs.{sfits-of}
 use mir.Syntax.{w32}
 use mir.ValLaws.{toZ-ofZ}
@@ -5,10 +7,7 @@ use Rattle.rules.specs.Plan.{version1}
 use Rattle.plan.specs.File.{limitFits}
 use Rattle.plan.proofs.fits.limit_fits.Statement.{statement}
 use Rattle.plan.proofs.fits.limit_fits.Tie as tie
-use Rattle.plan.proofs.fits.limit_fits.Reads as reads
-use Rattle.plan.proofs.fits.limit_fits.Lts as lts
 
--- src/lib.rt:145:1
 returns : tie.Need-returns
 unfolding limitFits version1
 returns c =

@@ -1,12 +1,11 @@
+-- `fits::link_fits` meets its contract: the code's numbers are those of version 1.
+-- Assumes nothing.
 use mathlib.Core.Path.{refl}
 use Rattle.rules.specs.Plan.{version1}
 use Rattle.plan.specs.File.{linkFits}
 use Rattle.plan.proofs.fits.link_fits.Statement.{statement}
 use Rattle.plan.proofs.fits.link_fits.Tie as tie
-use Rattle.plan.proofs.fits.link_fits.Reads as reads
-use Rattle.plan.proofs.fits.link_fits.Lts as lts
 
--- src/lib.rt:152:1
 returns : tie.Need-returns
 unfolding linkFits version1
 returns c = refl

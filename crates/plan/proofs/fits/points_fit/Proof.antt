@@ -1,11 +1,10 @@
+-- `fits::points_fit` meets its contract: the code's numbers are those of version 1.
+-- Assumes nothing.
 use mathlib.Core.Path.{refl}
 use Rattle.rules.specs.Plan.{version1}
 use Rattle.plan.proofs.fits.points_fit.Statement.{statement}
 use Rattle.plan.proofs.fits.points_fit.Tie as tie
-use Rattle.plan.proofs.fits.points_fit.Reads as reads
-use Rattle.plan.proofs.fits.points_fit.Lts as lts
 
--- src/lib.rt:131:1
 returns : tie.Need-returns
 unfolding version1
 returns c = refl

@@ -1,36 +1,28 @@
+-- `record::head` meets its contract, field by field.
+-- Assumes nothing.
 use borrow.Author.Needs.{needs}
 use Rattle.plan.specs.Layout.{headOf}
 use Rattle.plan.proofs.record.head.Statement.{statement}
 use Rattle.plan.proofs.record.head.Tie as tie
-use Rattle.plan.proofs.record.head.Reads as reads
-use Rattle.plan.proofs.record.head.Lts as lts
-use Rattle.plan.proofs.field.unsigned_at.Reads as unsigned-at-reads
 
--- src/lib.rt:96:18
 unsigned-at-requires : tie.Need-unsigned-at-requires
 unsigned-at-requires c κs = search needs
 
--- src/lib.rt:97:17
 unsigned-at-requires-2 : tie.Need-unsigned-at-requires-2
 unsigned-at-requires-2 c κs = search needs
 
--- src/lib.rt:98:17
 unsigned-at-requires-3 : tie.Need-unsigned-at-requires-3
 unsigned-at-requires-3 c κs = search needs
 
--- src/lib.rt:99:16
 unsigned-at-requires-4 : tie.Need-unsigned-at-requires-4
 unsigned-at-requires-4 c κs = search needs
 
--- src/lib.rt:100:20
 unsigned-at-requires-5 : tie.Need-unsigned-at-requires-5
 unsigned-at-requires-5 c κs = search needs
 
--- src/lib.rt:101:19
 unsigned-at-requires-6 : tie.Need-unsigned-at-requires-6
 unsigned-at-requires-6 c κs = search needs
 
--- src/lib.rt:92:1
 returns : tie.Need-returns
 unfolding headOf
 returns c = cc

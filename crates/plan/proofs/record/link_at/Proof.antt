@@ -1,56 +1,43 @@
+-- `record::link_at` meets its contract, field by field.
+-- Assumes nothing.
 use borrow.Author.Needs.{needs}
 use Rattle.plan.specs.Layout.{linkAt}
 use Rattle.plan.proofs.record.link_at.Statement.{statement}
 use Rattle.plan.proofs.record.link_at.Tie as tie
-use Rattle.plan.proofs.record.link_at.Reads as reads
-use Rattle.plan.proofs.record.link_at.Lts as lts
-use Rattle.plan.proofs.field.unsigned_at.Reads as unsigned-at-reads
 
--- src/lib.rt:121:19
 mul-at : tie.Need-mul-at
 mul-at c = search needs
 
--- src/lib.rt:121:14
 add-at : tie.Need-add-at
 add-at c = search needs
 
--- src/lib.rt:121:39
 mul-at-2 : tie.Need-mul-at-2
 mul-at-2 c = search needs
 
--- src/lib.rt:121:14
 add-at-2 : tie.Need-add-at-2
 add-at-2 c = search needs
 
--- src/lib.rt:123:14
 unsigned-at-requires : tie.Need-unsigned-at-requires
 unsigned-at-requires c κs = search needs
 
--- src/lib.rt:124:32
 add-unsigned-at : tie.Need-add-unsigned-at
 add-unsigned-at c = search needs
 
--- src/lib.rt:124:14
 unsigned-at-requires-2 : tie.Need-unsigned-at-requires-2
 unsigned-at-requires-2 c κs = search needs
 
--- src/lib.rt:125:34
 add-unsigned-at-2 : tie.Need-add-unsigned-at-2
 add-unsigned-at-2 c = search needs
 
--- src/lib.rt:125:16
 unsigned-at-requires-3 : tie.Need-unsigned-at-requires-3
 unsigned-at-requires-3 c κs = search needs
 
--- src/lib.rt:126:33
 add-unsigned-at-3 : tie.Need-add-unsigned-at-3
 add-unsigned-at-3 c = search needs
 
--- src/lib.rt:126:15
 unsigned-at-requires-4 : tie.Need-unsigned-at-requires-4
 unsigned-at-requires-4 c κs = search needs
 
--- src/lib.rt:118:1
 returns : tie.Need-returns
 unfolding linkAt
 returns c = cc
