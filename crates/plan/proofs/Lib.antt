@@ -1,4 +1,7 @@
 pub mod Fields
 pub mod Order
 pub mod Turns
+pub mod Records
+pub mod Decide
+pub mod Good
 pub mod Tests
