@@ -1,59 +1,20 @@
 -- The tests decide what the paper's ranges say, and an answer is Done exactly where no test refuses.
 -- Assumes nothing.
-use mathlib.Core.Path.{_≡_, refl, sym, ap, subst, _∙_}
+use mathlib.Core.Path.{_≡_, refl, sym, subst}
 use mathlib.Core.Logic.{_≢_, ⊎-elim}
-use mathlib.Core.Bool.{Bool, true, false, not, _&&_, false≢true, true≢false}
+use mathlib.Core.Bool.{Bool, true, false, not, _&&_}
 use mathlib.Core.List.{List, [], _∷_, List·Memᴰ, List·Memᴰ·head, List·Memᴰ·tail, List·Memᴰ·cases-cons, List·Memᴰ·not-nil}
-use Prim.Native.Nat.{ℕ, zero, suc}
+use Prim.Native.Nat.{ℕ, suc}
 use lib.Dec.{T, leb, ltb, eqb}
 use lib.IntN.{ℤ, pos, negℤ}
 use lib.Signed.{leZ, _≤ℤ_}
-use borrow.Author.Tests.{ltb-true, leb-true, eqb-true, eqb-false, not-true, lt-ltb, le-leb, eq-eqb, ne-eqb}
+use borrow.Author.Tests.{ltb-true, leb-true, eqb-false, not-true, lt-ltb, le-leb, ne-eqb}
 use Rattle.rules.specs.Plan.{Limit, Link, Ranges, LimitInRange, LinkInRange, Unshared}
-use Rattle.rules.specs.Answers.{codeOf}
-use Rattle.rules.specs.declared.Answer.{Answer}
-use Rattle.rules.specs.declared.Answer.the-variants.{Done, FewBytes, BadVersion, BadPoints, BadCounts, BadLayout, BadLimit, BadLink, RepeatedLink, ShortRoom, HasLinks, NotControllable, NotClosed}
+use Rattle.rules.specs.declared.Answer.the-variants.{Done, BadLimit, BadLink, RepeatedLink}
 use Rattle.plan.proofs.Tests.{both, and}
-use Rattle.plan.specs.File.{_then_, unless, limitFits, linkFits, fresh, limitPlace, linkPlace, limitsAnswer, linkAnswer, linksAnswer}
-
--- ---- answers
-
--- code 0 is Done's alone
-pub code-zero : (a : Answer) → eqb (codeOf a) 0 ≡ true → a ≡ Done
-code-zero Done e = refl
-code-zero FewBytes e = absurd (false≢true e)
-code-zero BadVersion e = absurd (false≢true e)
-code-zero BadPoints e = absurd (false≢true e)
-code-zero BadCounts e = absurd (false≢true e)
-code-zero BadLayout e = absurd (false≢true e)
-code-zero (BadLimit i) e = absurd (false≢true e)
-code-zero (BadLink i) e = absurd (false≢true e)
-code-zero (RepeatedLink i) e = absurd (false≢true e)
-code-zero ShortRoom e = absurd (false≢true e)
-code-zero HasLinks e = absurd (false≢true e)
-code-zero NotControllable e = absurd (false≢true e)
-code-zero NotClosed e = absurd (false≢true e)
-
--- two answers one after the other are Done where both are
-pub then-done : (a b : Answer) → (a then b) ≡ Done → (a ≡ Done) × (b ≡ Done)
-then-done a b e = go (eqb (codeOf a) 0) refl
-  where
-    go : (t : Bool) → eqb (codeOf a) 0 ≡ t → (a ≡ Done) × (b ≡ Done)
-    go true q = (code-zero a q, rw q at e)
-    go false q =
-        let d : a ≡ Done = rw q at e in
-        absurd (true≢false (sym (ap (λ (x : Answer). eqb (codeOf x) 0) d) ∙ q))
-
-pub done-then : (a b : Answer) → a ≡ Done → b ≡ Done → (a then b) ≡ Done
-done-then a b p q = rw p q
-
--- a refusal that a test guards does not come where the test holds, and only there
-pub unless-done : (t : Bool) (a : Answer) → eqb (codeOf a) 0 ≡ false → unless t a ≡ Done → t ≡ true
-unless-done true a r e = refl
-unless-done false a r e = absurd (true≢false (sym (ap (λ (x : Answer). eqb (codeOf x) 0) e) ∙ r))
-
-pub done-unless : (t : Bool) (a : Answer) → t ≡ true → unless t a ≡ Done
-done-unless t a e = rw e
+use Rattle.answers.specs.Order.{unless}
+use Rattle.answers.proofs.Codes.{then-done, done-then, unless-done, done-unless}
+use Rattle.plan.specs.File.{limitFits, linkFits, fresh, limitPlace, linkPlace, limitsAnswer, linkAnswer, linksAnswer}
 
 -- ---- tests
 

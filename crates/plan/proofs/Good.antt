@@ -1,25 +1,27 @@
 -- What a sound file gives: the reader's answer is Done exactly for the paper's plan files, and then one record holds all that
 -- later proofs need of the bytes. With Add's limit it is Done exactly where both the file and the limit are in range.
 -- Assumes nothing.
-use mathlib.Core.Path.{_≡_, refl, sym, ap, subst, _∙_}
+use mathlib.Core.Path.{_≡_, refl}
 use mathlib.Core.Logic.{_↔_}
-use mathlib.Core.Bool.{Bool, true, false, _&&_}
-use mathlib.Core.List.{List, [], _∷_, List·Memᴰ, List·Memᴰ·not-nil}
-use Prim.Native.Nat.{ℕ, zero, suc, _+_, _≤_, _<_}
+use mathlib.Core.Bool.{true, _&&_}
+use mathlib.Core.List.{List, [], List·Memᴰ, List·Memᴰ·not-nil}
+use Prim.Native.Nat.{ℕ, _≤_, _<_}
 use native.Mathlib.Nat.{zero-add}
 use native.Mathlib.Omega.{arith}
-use lib.Dec.{leb, ltb, eqb}
+use lib.Dec.{leb, eqb}
 use lib.ListN.{length}
 use borrow.Author.Tests.{leb-true, eqb-true, le-leb, eq-eqb}
-use Rattle.rules.specs.Plan.{Limit, Link, Plan, Ranges, version1, LimitInRange, LinkInRange, InRange}
+use Rattle.rules.specs.Plan.{Limit, Link, version1, LimitInRange, InRange}
 use Rattle.rules.specs.declared.Answer.{Answer}
 use Rattle.rules.specs.declared.Answer.the-variants.{Done, FewBytes, BadVersion, BadPoints, BadCounts, BadLayout, BadLimit}
 use Rattle.plan.specs.declared.Header.{Header}
-use Rattle.plan.specs.Layout.{headOf, limitOffset, linkOffset, limitAt, linkAt, records, planOf}
-use Rattle.plan.specs.File.{_then_, unless, pointsFit, countsFit, laidOut, headAnswer, limitFits, limitPlace, limitAnswer, limitsAnswer, linksAnswer, frontAnswer, fileAnswer, addAnswer, PlanFile}
+use Rattle.plan.specs.Layout.{headOf, limitOffset, linkOffset, limitAt, linkAt, planOf}
+use Rattle.answers.specs.Order.{_then_, unless}
+use Rattle.answers.proofs.Codes.{then-done, done-then, unless-done, done-unless}
+use Rattle.plan.specs.File.{pointsFit, countsFit, laidOut, headAnswer, limitFits, limitPlace, limitAnswer, limitsAnswer, linksAnswer, frontAnswer, fileAnswer, addAnswer, PlanFile}
 use Rattle.plan.proofs.Tests.{both, and}
 use Rattle.plan.proofs.Records.{Listed, records-length, record-in, in-records}
-use Rattle.plan.proofs.Decide.{then-done, done-then, unless-done, done-unless, limit-ok, ok-limit, limits-ok, ok-limits, LinksOk, links-ok, ok-links}
+use Rattle.plan.proofs.Decide.{limit-ok, ok-limit, limits-ok, ok-limits, LinksOk, links-ok, ok-links}
 
 -- ---- the header
 

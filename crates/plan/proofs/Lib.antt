@@ -1,4 +1,3 @@
-pub mod Fields
 pub mod Order
 pub mod Turns
 pub mod Records

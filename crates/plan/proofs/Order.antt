@@ -1,6 +1,6 @@
 -- The order of the answers: one after another, the first refusal stands. The laws take what the calls ensure as it comes: h is
 -- the header that was read, a and b are answers, t is what was said of whether a is no refusal. Assumes nothing.
-use mathlib.Core.Path.{_≡_, sym, _∙_}
+use mathlib.Core.Path.{_≡_}
 use mathlib.Core.Bool.{Bool, true, false, not}
 use mathlib.Core.List.{List, []}
 use Prim.Native.Nat.{ℕ}

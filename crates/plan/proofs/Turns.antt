@@ -1,14 +1,13 @@
 -- Records in file order, one at a time: what a turn of each loop does to the answer that it is working out.
 -- `records f i (m - i)` are the records from index i to the last, `earlier f i` those before it. Assumes nothing.
-use mathlib.Core.Path.{_≡_, refl, sym, ap, _∙_}
+use mathlib.Core.Path.{_≡_, ap}
 use mathlib.Core.Bool.{Bool, true, false, not}
-use mathlib.Core.List.{List, [], _∷_}
-use Prim.Native.Nat.{ℕ, zero, suc, _+_, _-_, _≤_, _<_}
+use mathlib.Core.List.{[], _∷_}
+use Prim.Native.Nat.{ℕ, suc, _+_, _-_, _≤_, _<_}
 use native.Mathlib.Numerals.{add-one}
 use native.Mathlib.Omega.{arith}
 use borrow.Author.Tests.{eq-eqb, ne-eqb}
 use Rattle.rules.specs.Plan.{Limit, Link, Ranges}
-use Rattle.rules.specs.declared.Answer.{Answer}
 use Rattle.rules.specs.declared.Answer.the-variants.{Done, BadLimit, BadLink, RepeatedLink}
 use Rattle.plan.specs.Layout.{records, earlier}
 use Rattle.plan.specs.File.{limitFits, linkFits, fresh, limitPlace, linkPlace, limitsAnswer, linksAnswer}

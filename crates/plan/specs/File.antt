@@ -1,29 +1,19 @@
 -- Document 01, "Numbers returned", codes 1 to 8: what the reader answers to any bytes, and what a plan file is.
 -- Assumes nothing.
 use mathlib.Core.Path.{_≡_}
-use mathlib.Core.Bool.{Bool, true, false, not, cond, _&&_}
+use mathlib.Core.Bool.{Bool, true, not, _&&_}
 use mathlib.Core.List.{List, [], _∷_}
-use Prim.Native.Nat.{ℕ, zero, suc, _≤_}
+use Prim.Native.Nat.{ℕ, suc, _≤_}
 use lib.Dec.{leb, ltb, eqb}
 use lib.ListN.{length}
 use lib.IntN.{pos, negℤ}
 use lib.Signed.{leZ}
-use Rattle.rules.specs.Plan.{Limit, Link, Plan, Ranges, version1, InRange}
-use Rattle.rules.specs.Answers.{codeOf}
+use Rattle.rules.specs.Plan.{Limit, Link, Ranges, version1, InRange}
 use Rattle.rules.specs.declared.Answer.{Answer}
 use Rattle.rules.specs.declared.Answer.the-variants.{Done, FewBytes, BadVersion, BadPoints, BadCounts, BadLayout, BadLimit, BadLink, RepeatedLink}
+use Rattle.answers.specs.Order.{_then_, unless}
 use Rattle.plan.specs.declared.Header.{Header}
 use Rattle.plan.specs.Layout.{headOf, limitOffset, linkOffset, planOf}
-
--- the first refusal of two answers, in their order
-infixr 20 _then_
-abbrev pub _then_ : Answer → Answer → Answer
-a then b = cond (eqb (codeOf a) 0) b a
-
--- a refusal, unless a test holds
-abbrev pub unless : Bool → Answer → Answer
-unless true refusal = Done
-unless false refusal = refusal
 
 -- "n 1 to 64"
 abbrev pub pointsFit : Ranges → ℕ → Bool
@@ -52,7 +42,7 @@ unfoldable pub limitFits : Ranges → ℕ → Limit → Bool
 limitFits r n m =
     ltb (m .from) n && ltb (m .to) n && leZ (negℤ (pos (r .weight))) (m .weight) && leZ (m .weight) (pos (r .weight))
 
--- "1 <= l < u <= 1,000,000", "A differs from C, C is not 0"
+-- "every point named is below n", "A differs from C, C is not 0", "1 <= l < u <= 1,000,000"
 unfoldable pub linkFits : Ranges → ℕ → Link → Bool
 linkFits r n k =
     ltb (k .act) n

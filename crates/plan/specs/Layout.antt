@@ -2,10 +2,9 @@
 -- Assumes nothing.
 use mathlib.Core.List.{List, [], _∷_}
 use Prim.Native.Nat.{ℕ, zero, suc, _+_, _*_}
-use lib.IntN.{ℤ}
 use Rattle.rules.specs.Plan.{Limit, Link, Plan}
 use Rattle.plan.specs.declared.Header.{Header}
-use Rattle.plan.specs.Bytes.{wordAt, signedAt}
+use Rattle.fields.specs.Bytes.{wordAt, signedAt}
 
 -- "The header holds counts and offsets, 24 bytes: version (1), points n, limits m, links k, offset of the limits, offset of the links."
 unfoldable pub headOf : List ℕ → Header

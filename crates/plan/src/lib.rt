@@ -1,21 +1,15 @@
 // The plan file: from lent bytes to the paper's plan, with nothing copied. Every call here is total: it takes any bytes.
 // What each answers is said by the definitions of specs/, which follow the paper.
-mod answer;
-mod field;
 mod fits;
 mod record;
 mod scan;
 
-pub use answer::accepted;
-pub use answer::code;
-pub use answer::place;
-pub use field::signed_at;
-pub use field::unsigned_at;
 pub use record::head;
 pub use record::limit_at;
 pub use record::link_at;
 ghost use mathlib.Core.Path.{_≡_};
 ghost use Rattle.plan.specs.File.{headAnswer, frontAnswer, fileAnswer, addAnswer};
+use answers::accepted;
 use fits::counts_fit;
 use fits::laid_out;
 use fits::limit_fits;

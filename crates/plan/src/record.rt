@@ -5,8 +5,8 @@ ghost use Rattle.plan.specs.Values.{limitOf, linkOf};
 use crate::Header;
 use crate::Limit;
 use crate::Link;
-use crate::field::signed_at;
-use crate::field::unsigned_at;
+use fields::signed_at;
+use fields::unsigned_at;
 
 // The header.
 pub fn head(file: &[u8]) -> Header

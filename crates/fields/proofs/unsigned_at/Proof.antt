@@ -1,10 +1,10 @@
--- `field::unsigned_at` meets its contract, byte by byte.
+-- `unsigned_at` meets its contract, byte by byte.
 -- Assumes nothing.
 use borrow.Author.Needs.{needs}
 use native.Mathlib.Nat.{add-zero}
-use Rattle.plan.specs.Bytes.{wordAt}
-use Rattle.plan.proofs.field.unsigned_at.Statement.{statement}
-use Rattle.plan.proofs.field.unsigned_at.Tie as tie
+use Rattle.fields.specs.Bytes.{wordAt}
+use Rattle.fields.proofs.unsigned_at.Statement.{statement}
+use Rattle.fields.proofs.unsigned_at.Tie as tie
 
 byte-at-requires : tie.Need-byte-at-requires
 byte-at-requires c κs = search needs

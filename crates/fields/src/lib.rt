@@ -1,7 +1,7 @@
 // A field of a lent file: a 32-bit number, its lowest byte first, at any position.
 ghost use mathlib.Core.Path.{_≡_};
 ghost use Prim.Native.Nat.{_+_};
-ghost use Rattle.plan.specs.Bytes.{byteAt, wordOf, wordAt, signedOf, signedAt};
+ghost use Rattle.fields.specs.Bytes.{byteAt, wordOf, wordAt, signedOf, signedAt};
 
 // The byte i places after a position; past the end it counts as 0.
 fn byte_at(file: &[u8], at: usize, i: usize) -> u8

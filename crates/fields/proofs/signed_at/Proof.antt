@@ -1,12 +1,12 @@
--- `field::signed_at` meets its contract: the signed reading of the unsigned field.
+-- `signed_at` meets its contract: the signed reading of the unsigned field.
 -- Assumes nothing.
 use mathlib.Core.Path.{ap, _∙_}
 use borrow.Author.Needs.{needs, sfits-of}
 use mir.Syntax.{w32}
 use mir.ValLaws.{toZ-ofZ}
-use Rattle.plan.specs.Bytes.{signedAt, signedOf}
-use Rattle.plan.proofs.field.signed_at.Statement.{statement}
-use Rattle.plan.proofs.field.signed_at.Tie as tie
+use Rattle.fields.specs.Bytes.{signedAt, signedOf}
+use Rattle.fields.proofs.signed_at.Statement.{statement}
+use Rattle.fields.proofs.signed_at.Tie as tie
 
 unsigned-at-requires : tie.Need-unsigned-at-requires
 unsigned-at-requires c κs = search needs

@@ -1,8 +1,8 @@
--- `answer::accepted` meets its contract, by what `code` ensures.
+-- `accepted` meets its contract, by what `code` ensures.
 -- Assumes nothing.
 use borrow.Author.Needs.{needs}
-use Rattle.plan.proofs.answer.accepted.Statement.{statement}
-use Rattle.plan.proofs.answer.accepted.Tie as tie
+use Rattle.answers.proofs.accepted.Statement.{statement}
+use Rattle.answers.proofs.accepted.Tie as tie
 
 code-requires : tie.Need-code-requires
 code-requires c κs = search needs

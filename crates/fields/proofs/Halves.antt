@@ -1,16 +1,16 @@
 -- Field reads: the two halves of the signed reading, and the corners that the paper's weights and cells can meet.
 -- Assumes nothing.
-use mathlib.Core.Path.{_≡_, refl, ap, _∙_}
+use mathlib.Core.Path.{_≡_, refl}
 use mathlib.Core.List.{List, [], _∷_}
 use Prim.Native.Nat.{ℕ, zero, suc, _-_, _≤_, _<_}
 use native.Mathlib.Nat.{zero-add}
 use native.Mathlib.Omega.{arith}
 use borrow.Author.Tests.{lt-ltb, le-ltb}
-use lib.IntN.{ℤ, pos, negsuc, negℤ, _-ℤ_}
+use lib.IntN.{ℤ, pos, negsuc, _-ℤ_}
 use mir.Syntax.{w32}
-use mir.Val.{SFits, toZ, ofZ}
-use mir.ValLaws.{toZ-pos, toZ-ofZ}
-use Rattle.plan.specs.Bytes.{signedOf, signedAt, wordAt}
+use mir.Val.{toZ}
+use mir.ValLaws.{toZ-pos}
+use Rattle.fields.specs.Bytes.{signedOf, signedAt, wordAt}
 
 -- below 2^31 a word is itself
 pub signed-low : (w : ℕ) → w < 2_147_483_648 → toZ w32 w ≡ signedOf w

@@ -1,11 +1,11 @@
--- `field::byte_at` meets its contract: where a test leaves early the position is past the end, and a byte there counts as 0.
+-- `byte_at` meets its contract: where a test leaves early the position is past the end, and a byte there counts as 0.
 -- Assumes nothing.
 use mathlib.Core.Path.{sym}
 use borrow.Author.Needs.{needs}
 use native.Mathlib.Omega.{arith}
 use lib.ListN.{List·getD-eq-default}
-use Rattle.plan.proofs.field.byte_at.Statement.{statement}
-use Rattle.plan.proofs.field.byte_at.Tie as tie
+use Rattle.fields.proofs.byte_at.Statement.{statement}
+use Rattle.fields.proofs.byte_at.Tie as tie
 
 returns : tie.Need-returns
 returns c = sym (List·getD-eq-default (c .before .args .file .now) 0 (omega arith))

@@ -1,4 +1,4 @@
--- `field::signed` meets its contract, a half at a time.
+-- `signed` meets its contract, a half at a time.
 -- Assumes nothing.
 use mathlib.Core.Path.{sym, _∙_}
 use Prim.Native.Nat.{_≤_, _<_, _-_}
@@ -7,9 +7,9 @@ use borrow.Author.Needs.{needs, sfits-of}
 use lib.IntN.{negsuc}
 use mir.Syntax.{w32}
 use mir.ValLaws.{toZ-ofZ}
-use Rattle.plan.proofs.Fields.{signed-low, signed-high, from-below}
-use Rattle.plan.proofs.field.signed.Statement.{statement}
-use Rattle.plan.proofs.field.signed.Tie as tie
+use Rattle.fields.proofs.Halves.{signed-low, signed-high, from-below}
+use Rattle.fields.proofs.signed.Statement.{statement}
+use Rattle.fields.proofs.signed.Tie as tie
 
 cast-result : tie.Need-cast-result
 cast-result c = search needs
