@@ -1,0 +1,55 @@
+// A field of a lent file: a 32-bit number, its lowest byte first, at any position.
+ghost use mathlib.Core.Path.{_≡_};
+ghost use Prim.Native.Nat.{_+_};
+ghost use Rattle.fields.specs.Bytes.{byteAt, wordOf, wordAt, signedOf, signedAt};
+
+// The byte i places after a position; past the end it counts as 0.
+fn byte_at(file: &[u8], at: usize, i: usize) -> u8
+    ensures { λ r. ⌜ r ≡ byteAt (now (file .entry)) (at + i) ⌝ }
+{
+    let size = file.len();
+    if size <= at {
+        return 0;
+    }
+    if size - at <= i {
+        return 0;
+    }
+    file[at + i]
+}
+
+// The unsigned number of four bytes, the lowest first.
+fn word(a: u8, b: u8, c: u8, d: u8) -> u32
+    ensures { λ r. ⌜ r ≡ wordOf a b c d ⌝ }
+{
+    (a as u32) + 256 * (b as u32) + 65_536 * (c as u32) + 16_777_216 * (d as u32)
+}
+
+// The signed number that 32 bits stand for.
+fn signed(w: u32) -> i32
+    ensures { λ r. ⌜ r ≡ signedOf w ⌝ }
+{
+    if w < 2_147_483_648 {
+        w as i32
+    } else {
+        -1 - ((4_294_967_295 - w) as i32)
+    }
+}
+
+// The unsigned field at a position.
+pub fn unsigned_at(file: &[u8], at: usize) -> u32
+    ensures { λ r. ⌜ r ≡ wordAt (now (file .entry)) at ⌝ }
+{
+    word(
+        byte_at(file, at, 0),
+        byte_at(file, at, 1),
+        byte_at(file, at, 2),
+        byte_at(file, at, 3),
+    )
+}
+
+// The signed field at a position.
+pub fn signed_at(file: &[u8], at: usize) -> i32
+    ensures { λ r. ⌜ r ≡ signedAt (now (file .entry)) at ⌝ }
+{
+    signed(unsigned_at(file, at))
+}

@@ -1,0 +1,6 @@
+pub mod Order
+pub mod Turns
+pub mod Records
+pub mod Decide
+pub mod Good
+pub mod Tests

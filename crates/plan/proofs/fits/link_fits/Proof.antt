@@ -1,0 +1,14 @@
+-- `fits::link_fits` meets its contract: the code's numbers are those of version 1.
+-- Assumes nothing.
+use mathlib.Core.Path.{refl}
+use Rattle.rules.specs.Plan.{version1}
+use Rattle.plan.specs.File.{linkFits}
+use Rattle.plan.proofs.fits.link_fits.Statement.{statement}
+use Rattle.plan.proofs.fits.link_fits.Tie as tie
+
+returns : tie.Need-returns
+unfolding linkFits version1
+returns c = refl
+
+pub link-fits-spec : {M : Type 1} → statement M
+link-fits-spec = tie.close (tie.spec returns)

@@ -1,0 +1,35 @@
+-- `front` meets its contract: the header's answer stands, or the limits' counts.
+-- Assumes nothing.
+use borrow.Author.Needs.{needs}
+use Rattle.plan.proofs.Order.{front-stop, front-next}
+use Rattle.plan.proofs.front.Statement.{statement}
+use Rattle.plan.proofs.front.Tie as tie
+
+head-requires : tie.Need-head-requires
+head-requires c κs = search needs
+
+head-answer-requires : tie.Need-head-answer-requires
+head-answer-requires c κs = search needs
+
+accepted-requires : tie.Need-accepted-requires
+accepted-requires c κs = search needs
+
+returns : tie.Need-returns
+returns c = front-stop (c .before .before .before .before .before .args .file .now) (c .before .before .head-answer .result) (c .before .accepted .result) (c .before .accepted .ensures) (c .before .before .before .head .result) (c .before .before .before .head .ensures) (c .before .before .head-answer .ensures) (c .if1 .taken)
+
+limits-requires : tie.Need-limits-requires
+limits-requires c κs = search needs
+
+returns-2 : tie.Need-returns-2
+returns-2 c = front-next (c .before .before .before .before .before .before .args .file .now) (c .before .before .before .head-answer .result) (c .before .before .accepted .result) (c .before .before .accepted .ensures) (c .before .before .before .before .head .result) (c .before .before .before .before .head .ensures) (c .before .before .before .head-answer .ensures) (c .before .if1 .left) (c .limits .result) (c .limits .ensures)
+
+pub front-spec : {M : Type 1} → statement M
+front-spec =
+    tie.close
+    (tie.spec
+    head-requires
+    head-answer-requires
+    accepted-requires
+    returns
+    limits-requires
+    returns-2)

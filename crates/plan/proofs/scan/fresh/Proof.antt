@@ -1,0 +1,61 @@
+-- `scan::fresh` meets its contract. The loop's invariant: what is asked of all i links is what is asked of the first j.
+-- Assumes nothing.
+use mathlib.Core.Path.{_≡_, refl, sym, _∙_}
+use native.Mathlib.Omega.{arith}
+use borrow.Author.Needs.{needs}
+use Rattle.plan.specs.Layout.{linkAt, earlier}
+use Rattle.plan.specs.Values.{linkOf}
+use Rattle.plan.specs.File.{fresh}
+use Rattle.plan.proofs.Turns.{fresh-next, fresh-stop, fresh-end}
+use Rattle.plan.proofs.scan.fresh.Statement.{statement}
+use Rattle.plan.proofs.scan.fresh.Tie as tie
+
+abbrev Inv-loop : tie.InvT-loop
+Inv-loop file m i con j₀ j =
+    fresh con (earlier (linkAt file m) i) ≡ fresh con (earlier (linkAt file m) j)
+
+abbrev μ-loop : tie.MeasureT-loop
+μ-loop file m i con j₀ j = j
+
+loop-holds : tie.Need-loop-holds Inv-loop μ-loop
+loop-holds c = refl
+
+sub-j : tie.Need-sub-j Inv-loop μ-loop
+sub-j c = omega arith
+
+link-at-requires : tie.Need-link-at-requires Inv-loop μ-loop
+link-at-requires c κs = search needs
+
+returns : tie.Need-returns Inv-loop μ-loop
+returns c =
+    let a = c .before .before .before .before .before .before .args in
+    let j = c .before .before .before .before .loop .j in
+    sym (c .before .before .before .before .loop .inv ∙ fresh-stop (a .con) (linkAt (a .file .now) (a .m)) j (omega arith) (linkOf (c .before .before .link-at .result)) (c .before .before .link-at .ensures) (c .if1 .taken))
+
+loop-less : tie.Need-loop-less Inv-loop μ-loop
+loop-less c = omega arith
+
+loop-again : tie.Need-loop-again Inv-loop μ-loop
+loop-again c =
+    let a = c .before .before .before .before .before .before .args in
+    let j = c .before .before .before .before .loop .j in
+    c .before .before .before .before .loop .inv ∙ fresh-next (a .con) (linkAt (a .file .now) (a .m)) j (omega arith) (linkOf (c .before .before .link-at .result)) (c .before .before .link-at .ensures) (c .if1 .left)
+
+returns-2 : tie.Need-returns-2 Inv-loop μ-loop
+returns-2 c =
+    let a = c .before .before .before .args in
+    sym (c .before .loop .inv ∙ fresh-end (a .con) (linkAt (a .file .now) (a .m)) (c .before .loop .j) (omega arith))
+
+pub fresh-spec : {M : Type 1} → statement M
+fresh-spec =
+    tie.close
+    (tie.spec
+    Inv-loop
+    μ-loop
+    loop-holds
+    sub-j
+    link-at-requires
+    returns
+    loop-less
+    loop-again
+    returns-2)

@@ -1,0 +1,68 @@
+-- `scan::limits` meets its contract. The loop's invariant: the answer to all limits is the answer to those from index i on.
+-- Assumes nothing.
+use mathlib.Core.Path.{_≡_, sym, _∙_}
+use Prim.Native.Nat.{_-_, _≤_}
+use native.Mathlib.Nat.{sub-zero}
+use native.Mathlib.Omega.{arith}
+use borrow.Author.Needs.{needs}
+use Rattle.rules.specs.Plan.{version1}
+use Rattle.plan.specs.Layout.{limitAt, records}
+use Rattle.plan.specs.Values.{limitOf}
+use Rattle.plan.specs.File.{limitsAnswer}
+use Rattle.plan.proofs.Turns.{limits-next, limits-stop, limits-end}
+use Rattle.plan.proofs.scan.limits.Statement.{statement}
+use Rattle.plan.proofs.scan.limits.Tie as tie
+
+abbrev Inv-loop : tie.InvT-loop
+Inv-loop file n m i₀ i =
+    (i ≤ m) × (limitsAnswer version1 n 0 (records (limitAt file) 0 m) ≡ limitsAnswer version1 n i (records (limitAt file) i (m - i)))
+
+abbrev μ-loop : tie.MeasureT-loop
+μ-loop file n m i₀ i = m - i
+
+loop-holds : tie.Need-loop-holds Inv-loop μ-loop
+loop-holds c = (omega arith, rw sub-zero)
+
+limit-at-requires : tie.Need-limit-at-requires Inv-loop μ-loop
+limit-at-requires c κs = search needs
+
+limit-fits-requires : tie.Need-limit-fits-requires Inv-loop μ-loop
+limit-fits-requires c κs = search needs
+
+returns : tie.Need-returns Inv-loop μ-loop
+returns c =
+    let a = c .before .before .before .before .before .before .args in
+    let i = c .before .before .before .before .loop .i in
+    sym (c .before .before .before .before .loop .inv .1 ∙ limits-stop version1 (a .n) (limitAt (a .file .now)) i (a .m) (omega arith) (limitOf (c .before .before .limit-at .result)) (c .before .limit-fits .result) (c .before .before .limit-at .ensures) (c .before .limit-fits .ensures) (c .if1 .taken))
+
+add-i : tie.Need-add-i Inv-loop μ-loop
+add-i c = omega arith
+
+loop-less : tie.Need-loop-less Inv-loop μ-loop
+loop-less c = omega arith
+
+loop-again : tie.Need-loop-again Inv-loop μ-loop
+loop-again c =
+    let a = c .before .before .before .before .before .before .args in
+    let i = c .before .before .before .before .loop .i in
+    (omega arith, c .before .before .before .before .loop .inv .1 ∙ limits-next version1 (a .n) (limitAt (a .file .now)) i (a .m) (omega arith) (limitOf (c .before .before .limit-at .result)) (c .before .limit-fits .result) (c .before .before .limit-at .ensures) (c .before .limit-fits .ensures) (c .if1 .left))
+
+returns-2 : tie.Need-returns-2 Inv-loop μ-loop
+returns-2 c =
+    let a = c .before .before .before .args in
+    sym (c .before .loop .inv .1 ∙ limits-end version1 (a .n) (limitAt (a .file .now)) (c .before .loop .i) (a .m) (omega arith))
+
+pub limits-spec : {M : Type 1} → statement M
+limits-spec =
+    tie.close
+    (tie.spec
+    Inv-loop
+    μ-loop
+    loop-holds
+    limit-at-requires
+    limit-fits-requires
+    returns
+    add-i
+    loop-less
+    loop-again
+    returns-2)

@@ -1,0 +1,81 @@
+-- `scan::links` meets its contract. The loop's invariant: the answer to all links is the answer to those from index i on, after
+-- those before it. Assumes nothing.
+use mathlib.Core.Path.{_≡_, sym, _∙_}
+use mathlib.Core.List.{[]}
+use Prim.Native.Nat.{_-_, _≤_}
+use native.Mathlib.Nat.{sub-zero}
+use native.Mathlib.Omega.{arith}
+use borrow.Author.Needs.{needs}
+use Rattle.rules.specs.Plan.{version1}
+use Rattle.plan.specs.Layout.{linkAt, records, earlier}
+use Rattle.plan.specs.Values.{linkOf}
+use Rattle.plan.specs.File.{linksAnswer}
+use Rattle.plan.proofs.Turns.{links-next, links-stop, links-repeat, links-end}
+use Rattle.plan.proofs.scan.links.Statement.{statement}
+use Rattle.plan.proofs.scan.links.Tie as tie
+
+abbrev Inv-loop : tie.InvT-loop
+Inv-loop file n m k i₀ i =
+    (i ≤ k)
+    × (linksAnswer version1 n 0 [] (records (linkAt file m) 0 k) ≡ linksAnswer version1 n i (earlier (linkAt file m) i) (records (linkAt file m) i (k - i)))
+
+abbrev μ-loop : tie.MeasureT-loop
+μ-loop file n m k i₀ i = k - i
+
+loop-holds : tie.Need-loop-holds Inv-loop μ-loop
+loop-holds c = (omega arith, rw sub-zero)
+
+link-at-requires : tie.Need-link-at-requires Inv-loop μ-loop
+link-at-requires c κs = search needs
+
+link-fits-requires : tie.Need-link-fits-requires Inv-loop μ-loop
+link-fits-requires c κs = search needs
+
+returns : tie.Need-returns Inv-loop μ-loop
+returns c =
+    let a = c .before .before .before .before .before .before .args in
+    let i = c .before .before .before .before .loop .i in
+    sym (c .before .before .before .before .loop .inv .1 ∙ links-stop version1 (a .n) (linkAt (a .file .now) (a .m)) i (a .k) (omega arith) (linkOf (c .before .before .link-at .result)) (c .before .link-fits .result) (c .before .before .link-at .ensures) (c .before .link-fits .ensures) (c .if1 .taken))
+
+fresh-requires : tie.Need-fresh-requires Inv-loop μ-loop
+fresh-requires c κs = search needs
+
+returns-2 : tie.Need-returns-2 Inv-loop μ-loop
+returns-2 c =
+    let a = c .before .before .before .before .before .before .before .before .args in
+    let i = c .before .before .before .before .before .before .loop .i in
+    sym (c .before .before .before .before .before .before .loop .inv .1 ∙ links-repeat version1 (a .n) (linkAt (a .file .now) (a .m)) i (a .k) (omega arith) (linkOf (c .before .before .before .before .link-at .result)) (c .before .before .before .link-fits .result) (c .before .before .before .before .link-at .ensures) (c .before .before .before .link-fits .ensures) (c .before .before .if1 .left) (c .before .fresh .result) (c .before .fresh .ensures) (c .if2 .taken))
+
+add-i : tie.Need-add-i Inv-loop μ-loop
+add-i c = omega arith
+
+loop-less : tie.Need-loop-less Inv-loop μ-loop
+loop-less c = omega arith
+
+loop-again : tie.Need-loop-again Inv-loop μ-loop
+loop-again c =
+    let a = c .before .before .before .before .before .before .before .before .args in
+    let i = c .before .before .before .before .before .before .loop .i in
+    (omega arith, c .before .before .before .before .before .before .loop .inv .1 ∙ links-next version1 (a .n) (linkAt (a .file .now) (a .m)) i (a .k) (omega arith) (linkOf (c .before .before .before .before .link-at .result)) (c .before .before .before .link-fits .result) (c .before .before .before .before .link-at .ensures) (c .before .before .before .link-fits .ensures) (c .before .before .if1 .left) (c .before .fresh .result) (c .before .fresh .ensures) (c .if2 .left))
+
+returns-3 : tie.Need-returns-3 Inv-loop μ-loop
+returns-3 c =
+    let a = c .before .before .before .args in
+    sym (c .before .loop .inv .1 ∙ links-end version1 (a .n) (linkAt (a .file .now) (a .m)) (c .before .loop .i) (a .k) (omega arith))
+
+pub links-spec : {M : Type 1} → statement M
+links-spec =
+    tie.close
+    (tie.spec
+    Inv-loop
+    μ-loop
+    loop-holds
+    link-at-requires
+    link-fits-requires
+    returns
+    fresh-requires
+    returns-2
+    add-i
+    loop-less
+    loop-again
+    returns-3)

@@ -1,0 +1,55 @@
+-- `sound_with` meets its contract: as `sound`, with Add's limit between; its weight is read back from its bits.
+-- Assumes nothing.
+use borrow.Author.Needs.{needs}
+use mir.Syntax.{w32}
+use mir.ValLaws.{toZ-ofZ}
+use Rattle.rules.specs.Plan.{Limit}
+use Rattle.plan.proofs.Order.{add-stop, add-own, add-next}
+use Rattle.plan.proofs.sound_with.Statement.{statement}
+use Rattle.plan.proofs.sound_with.Tie as tie
+
+front-requires : tie.Need-front-requires
+front-requires c κs = search needs
+
+accepted-requires : tie.Need-accepted-requires
+accepted-requires c κs = search needs
+
+returns : tie.Need-returns
+returns c =
+    let a = c .before .before .before .before .args in
+    let added : Limit = record { from = a .x; to = a .y; weight = a .w } in
+    add-stop (a .file .now) (c .before .before .front .result) (c .before .accepted .result) (c .before .accepted .ensures) (c .before .before .front .ensures) added (c .if1 .taken)
+
+head-requires : tie.Need-head-requires
+head-requires c κs = search needs
+
+limit-fits-requires : tie.Need-limit-fits-requires
+limit-fits-requires c κs = search needs
+
+returns-2 : tie.Need-returns-2
+returns-2 c =
+    let a = c .before .before .before .before .before .before .before .args in
+    let added : Limit = record { from = a .x; to = a .y; weight = a .w } in
+    add-own (a .file .now) (c .before .before .before .before .before .front .result) (c .before .before .before .before .accepted .result) (c .before .before .before .before .accepted .ensures) (c .before .before .before .before .before .front .ensures) (c .before .before .before .if1 .left) (c .before .before .head .result) (c .before .before .head .ensures) added (c .before .limit-fits .result) (rw (toZ-ofZ w32 (a .w) (c .before .before .before .before .before .before .before .fits .w)) at (c .before .limit-fits .ensures)) (c .if2 .taken)
+
+links-requires : tie.Need-links-requires
+links-requires c κs = search needs
+
+returns-3 : tie.Need-returns-3
+returns-3 c =
+    let a = c .before .before .before .before .before .before .before .before .args in
+    let added : Limit = record { from = a .x; to = a .y; weight = a .w } in
+    add-next (a .file .now) (c .before .before .before .before .before .before .front .result) (c .before .before .before .before .before .accepted .result) (c .before .before .before .before .before .accepted .ensures) (c .before .before .before .before .before .before .front .ensures) (c .before .before .before .before .if1 .left) (c .before .before .before .head .result) (c .before .before .before .head .ensures) added (c .before .before .limit-fits .result) (rw (toZ-ofZ w32 (a .w) (c .before .before .before .before .before .before .before .before .fits .w)) at (c .before .before .limit-fits .ensures)) (c .before .if2 .left) (c .links .result) (c .links .ensures)
+
+pub sound-with-spec : {M : Type 1} → statement M
+sound-with-spec =
+    tie.close
+    (tie.spec
+    front-requires
+    accepted-requires
+    returns
+    head-requires
+    limit-fits-requires
+    returns-2
+    links-requires
+    returns-3)

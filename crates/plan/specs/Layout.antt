@@ -1,0 +1,65 @@
+-- Document 01, "Plan file": where the header's fields and the records lie, and the plan that the bytes hold.
+-- Assumes nothing.
+use mathlib.Core.List.{List, [], _∷_}
+use Prim.Native.Nat.{ℕ, zero, suc, _+_, _*_}
+use Rattle.rules.specs.Plan.{Limit, Link, Plan}
+use Rattle.plan.specs.declared.Header.{Header}
+use Rattle.fields.specs.Bytes.{wordAt, signedAt}
+
+-- "The header holds counts and offsets, 24 bytes: version (1), points n, limits m, links k, offset of the limits, offset of the links."
+unfoldable pub headOf : List ℕ → Header
+headOf s =
+    record {
+      version = wordAt s 0;
+      points = wordAt s 4;
+      limits = wordAt s 8;
+      links = wordAt s 12;
+      «limits_at» = wordAt s 16;
+      «links_at» = wordAt s 20;
+    }
+
+-- "Limits follow at 24, twelve bytes each": where limit i begins
+abbrev pub limitOffset : ℕ → ℕ
+limitOffset i = 24 + 12 * i
+
+-- "Links follow at 24 + 12m, sixteen bytes each": where link i begins, after m limits
+abbrev pub linkOffset : ℕ → ℕ → ℕ
+linkOffset m i = 24 + 12 * m + 16 * i
+
+-- "from X, to Y, signed weight w": the limit at index i
+unfoldable pub limitAt : List ℕ → ℕ → Limit
+limitAt s i =
+    record {
+      from = wordAt s (limitOffset i);
+      to = wordAt s (limitOffset i + 4);
+      weight = signedAt s (limitOffset i + 8);
+    }
+
+-- "activation A, contingent point C, shortest l, longest u, all unsigned": the link at index i, after m limits
+unfoldable pub linkAt : List ℕ → ℕ → ℕ → Link
+linkAt s m i =
+    record {
+      act = wordAt s (linkOffset m i);
+      con = wordAt s (linkOffset m i + 4);
+      short = wordAt s (linkOffset m i + 8);
+      long = wordAt s (linkOffset m i + 12);
+    }
+
+-- as many records as `left`, in their order, from index i on
+abbrev pub records : {A : Type 0} → (ℕ → A) → ℕ → ℕ → List A
+records f i zero = []
+records f i (suc left) = f i ∷ records f (suc i) left
+
+-- the records before index i, the last first
+abbrev pub earlier : {A : Type 0} → (ℕ → A) → ℕ → List A
+earlier f zero = []
+earlier f (suc i) = f i ∷ earlier f i
+
+-- the plan that the bytes hold: its points, its m limits and its k links
+unfoldable pub planOf : List ℕ → Plan
+planOf s =
+    record {
+      points = headOf s .points;
+      limits = records (limitAt s) 0 (headOf s .limits);
+      links = records (linkAt s (headOf s .limits)) 0 (headOf s .links);
+    }
