@@ -11,7 +11,7 @@ ghost use Rattle.tables.specs.Sweep.{lowerCell, joinRow, joinMiddle, joi
 use cell::Cell32;
 
 // The cell x to y.
-fn get(t: &[i32], n: usize, x: usize, y: usize) -> Cell32
+pub fn get(t: &[i32], n: usize, x: usize, y: usize) -> Cell32
     requires { ⌜ (x < n) × (y < n) × (n * n ≤ length (now t)) × (n ≤ 64) ⌝ }
     ensures { λ r. ⌜ r .v ≡ getD (now (t .entry)) (x * n + y) (pos 0) ⌝ }
 {
