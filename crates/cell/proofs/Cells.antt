@@ -17,10 +17,12 @@ use Rattle.cell.proofs.Laws.{mark-is, number-is}
 
 -- ---- the order
 
+-- no cell exceeds itself
 pub ≤ᶜ-refl : (a : Cell) → a ≤ᶜ a
 ≤ᶜ-refl mark = tt
 ≤ᶜ-refl (num a) = ≤ℤ-refl a
 
+-- the order is transitive
 pub ≤ᶜ-trans : (a b c : Cell) → a ≤ᶜ b → b ≤ᶜ c → a ≤ᶜ c
 ≤ᶜ-trans mark mark c h k = k
 ≤ᶜ-trans mark (num b) c h k = absurd h
@@ -29,6 +31,7 @@ pub ≤ᶜ-trans : (a b c : Cell) → a ≤ᶜ b → b ≤ᶜ c → a ≤ᶜ c
 ≤ᶜ-trans (num a) (num b) mark h k = tt
 ≤ᶜ-trans (num a) (num b) (num c) h k = ≤ℤ-trans h k
 
+-- two cells that do not exceed each other are equal
 pub ≤ᶜ-antisym : (a b : Cell) → a ≤ᶜ b → b ≤ᶜ a → a ≡ b
 ≤ᶜ-antisym mark mark h k = refl
 ≤ᶜ-antisym mark (num b) h k = absurd h
@@ -56,12 +59,13 @@ below-le mark b t = absurd (true≢false (sym t))
 below-le (num a) mark t = tt
 below-le (num a) (num b) t = omega signed
 
--- one that is not is at least the other; and back
+-- one that is not below another is at least it
 pub not-below-le : (a b : Cell) → belowᶜ a b ≡ false → b ≤ᶜ a
 not-below-le mark b t = ≤ᶜ-mark b
 not-below-le (num a) mark t = absurd (true≢false t)
 not-below-le (num a) (num b) t = omega signed
 
+-- a cell that is at least another is not below it
 pub le-not-below : (a b : Cell) → b ≤ᶜ a → belowᶜ a b ≡ false
 le-not-below mark b h = refl
 le-not-below (num a) mark h = absurd h
@@ -84,15 +88,18 @@ cond-is false P f g = g refl
 pub smaller-is : (P : Cell → Type 0) (a b : Cell) → (belowᶜ a b ≡ true → P a) → (belowᶜ a b ≡ false → P b) → P (smallerᶜ a b)
 smaller-is P a b f g = cond-is (belowᶜ a b) P f g
 
+-- the smaller exceeds neither
 pub smaller-left : (a b : Cell) → smallerᶜ a b ≤ᶜ a
 smaller-left a b = smaller-is (λ c. c ≤ᶜ a) a b (λ _. ≤ᶜ-refl a) (λ t. not-below-le a b t)
 
 pub smaller-right : (a b : Cell) → smallerᶜ a b ≤ᶜ b
 smaller-right a b = smaller-is (λ c. c ≤ᶜ b) a b (λ t. below-le a b t) (λ _. ≤ᶜ-refl b)
 
+-- and is at least whatever exceeds neither
 pub smaller-least : (a b c : Cell) → c ≤ᶜ a → c ≤ᶜ b → c ≤ᶜ smallerᶜ a b
 smaller-least a b c h k = smaller-is (λ d. c ≤ᶜ d) a b (λ _. h) (λ _. k)
 
+-- the smaller of two cells in range is in range
 pub smaller-stored : (n : ℕ) (a b : Cell) → Stored n a → Stored n b → Stored n (smallerᶜ a b)
 smaller-stored n a b h k = smaller-is (Stored n) a b (λ _. h) (λ _. k)
 
@@ -107,7 +114,8 @@ within-stored n (num a) h = omega (ints, neg (pos n))
 pub clamped-stored : (n : ℕ) (c : Cell) → Stored n (clamped n c)
 clamped-stored n mark = tt
 clamped-stored n (num a) =
-    cond-is (ltZ (pos n) a) (Stored n) (λ _. tt) (λ f. cond-is (ltZ a (negℤ (pos n))) (Stored n) (λ g. omega signed) (λ g. omega (signed, neg (pos n))))
+    cond-is (ltZ (pos n) a) (Stored n) (λ _. tt)
+    (λ f. cond-is (ltZ a (negℤ (pos n))) (Stored n) (λ g. omega signed) (λ g. omega (signed, neg (pos n))))
 
 -- what is stored is never less than what was meant
 pub clamped-le : (n : ℕ) (c : Cell) → c ≤ᶜ clamped n c

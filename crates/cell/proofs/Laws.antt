@@ -1,9 +1,9 @@
 -- What the methods of a cell rest on, once for every width: from the numbers that the code compares, adds and stores to the cells of the
 -- paper. `Room` is all that is asked of a width and its ranges. Assumes nothing.
-use mathlib.Core.Path.{_≡_, refl, sym, ap, _∙_}
+use mathlib.Core.Path.{_≡_, refl, sym, _∙_}
 use mathlib.Core.Bool.{Bool, true, false, cond, true≢false}
 use mathlib.Core.Logic.{_⊎_, inl, inr}
-use Prim.Native.Nat.{ℕ, zero, suc, _+_, _-_, _^_, _≤_, _<_}
+use Prim.Native.Nat.{ℕ, suc, _+_, _-_, _^_, _≤_}
 use native.Mathlib.Omega.{arith}
 use lib.Dec.{eqb}
 use lib.IntN.{ℤ, pos, negsuc, negℤ, _+ℤ_, _-ℤ_}
@@ -12,12 +12,12 @@ use borrow.Author.Tests.{eq-eqb, ne-eqb}
 use mir.Syntax.{Width, w32, w64}
 use mir.Val.{SFits, ofZ, toZ, hbits, bits}
 use mir.ValLaws.{pow-bits}
-use Rattle.whole.specs.Signed.{up, dn, larger}
+use Rattle.whole.specs.Signed.{larger}
 use Rattle.whole.proofs.Order.{ints, plus, neg, split}
 use Rattle.whole.proofs.Larger.{larger-least}
 use Rattle.whole.proofs.Bits.{signed, kept, lt-ltZ, le-ltZ, cast-is}
 use Rattle.rules.specs.Plan.{Ranges, Link, version1}
-use Rattle.rules.specs.Edges.{spread, upper-weight}
+use Rattle.rules.specs.Edges.{spread}
 use Rattle.rules.specs.Cells.{Cell, mark, num, cellOf, _+ᶜ_, lowered, uppered, Within}
 use Rattle.cell.specs.Steps.{adding, isMark, belowᶜ, Stored, clamped, Decides}
 
@@ -32,11 +32,12 @@ pub number-is : (m : ℕ) (a : ℤ) → a <ℤ pos m → cellOf m a ≡ num a
 number-is m (pos n) h = rw (ne-eqb n m (λ e. omega (signed, e)))
 number-is m (negsuc n) h = refl
 
--- a test for the mark that held, and one that did not
+-- a test for the mark that held: the cell is the mark
 pub is-mark : {c : Cell} {b : Bool} → b ≡ isMark c → b ≡ true → c ≡ mark
 is-mark {c = mark} e f = refl
 is-mark {c = num a} e f = absurd (true≢false (sym f ∙ e))
 
+-- and one that did not: the cell is a number
 pub no-mark : (m : ℕ) (a : ℤ) {b : Bool} → b ≡ isMark (cellOf m a) → b ≡ false → cellOf m a ≡ num a
 no-mark m (pos n) e f = by (eqb n m) (sym e ∙ f)
   where
@@ -45,7 +46,7 @@ no-mark m (pos n) e f = by (eqb n m) (sym e ∙ f)
     by false g = refl
 no-mark m (negsuc n) e f = refl
 
--- the rules at the mark
+-- Join at the mark, on either side
 pub join-left : {a : Cell} (b : Cell) → a ≡ mark → a ≡ a +ᶜ b
 join-left b e = rw e
 
@@ -53,6 +54,7 @@ pub join-right : (a : Cell) {b : Cell} → b ≡ mark → b ≡ a +ᶜ b
 join-right mark e = e
 join-right (num x) e = rw e
 
+-- Lower and Upper at the mark
 pub lower-mark : {c : Cell} → c ≡ mark → (k j : Link) → c ≡ lowered k j c
 lower-mark e k j = rw e
 
@@ -64,6 +66,7 @@ pub data Side (m : ℕ) (a : ℤ) : Type 0 where
   top : a ≡ pos m → cellOf m a ≡ mark → Side m a
   under : a <ℤ pos m → cellOf m a ≡ num a → Side m a
 
+-- every such number is on one side
 pub sides : (m : ℕ) (a : ℤ) → a ≤ℤ pos m → Side m a
 sides m a h = by (split (pos m) a)
   where
@@ -73,16 +76,18 @@ sides m a h = by (split (pos m) a)
 
 -- ---- the test for the reach
 
+-- a test that held decides what holds, and one that did not decides what does not
 pub decided-yes : {P : Type 0} → P → Decides true P
 decided-yes p = record { holds = λ _. p; fails = λ e. absurd (true≢false e) }
 
 pub decided-no : {P : Type 0} → (P → ⊥) → Decides false P
 decided-no n = record { holds = λ e. absurd (true≢false (sym e)); fails = λ _. n }
 
--- the mark is in reach; a number is where neither test against the ends of the reach holds
+-- the mark is in reach
 pub reach-mark : (n : ℕ) (c : Cell) → c ≡ mark → Decides true (Within n c)
 reach-mark n c e = decided-yes (rw e tt)
 
+-- a number is in reach where neither test against the ends of the reach holds
 module _ (n : ℕ) {c : Cell} {a : ℤ} (i : c ≡ num a) where
   pub reach-above : ltZ (pos n) a ≡ true → Decides false (Within n c)
   reach-above f = decided-no (λ h. let t : Within n (num a) = rw i at h in omega signed)
@@ -108,6 +113,7 @@ pub record Room (w : Width) (r : Ranges) : Type 0 where
   pub wide : r .reach + r .reach + 2 ≤ r .mark
   pub weight : r .weight ≤ r .reach
 
+-- the two widths and their ranges have that room
 pub room32 : Room w32 version1
 unfolding version1
 room32 = record { top = refl; wide = omega arith; weight = omega arith }
@@ -129,6 +135,10 @@ number {r} a e f s =
     let t : Stored (r .reach) (num a) = rw i at s in
     record { is = i; least = t .0; most = t .1 }
 
+-- such a cell is one that a sweep may hold
+pub number-stored : {r : Ranges} {a : ℤ} → Number r a → Stored (r .reach) (cellOf (r .mark) a)
+number-stored x = rw (x .is) (x .least, x .most)
+
 -- a result that fits its type and is the cell that is meant
 pub record Exact (w : Width) (r : Ranges) (z : ℤ) (c : Cell) : Type 0 where
   pub fits : SFits w z
@@ -138,6 +148,14 @@ module _ {w : Width} {r : Ranges} (room : Room w r) where
   -- a number of the type is at most the mark
   pub at-most : {a : ℤ} → SFits w a → a ≤ℤ pos (r .mark)
   at-most {a} h = omega (signed, kept h)
+
+  -- every number of the reach, and the floor, is such a cell
+  pub in-range : {a : ℤ} → negsuc (r .reach) ≤ℤ a → a ≤ℤ pos (r .reach) → Number r a
+  in-range {a} h k = record { is = number-is (r .mark) a (omega ints); least = h; most = k }
+
+  -- so is a weight
+  pub weight-number : {n : ℕ} → n ≤ r .weight → Number r (pos n)
+  weight-number h = in-range (omega ints) (omega ints)
 
   -- the test of the bits for the mark is the test of the cell
   pub mark-flag : (a : ℤ) → SFits w a → eqb (ofZ w a) (r .mark) ≡ isMark (cellOf (r .mark) a)

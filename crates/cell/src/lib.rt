@@ -12,7 +12,7 @@ ghost use mir.Val.{SFits};
 ghost use Rattle.whole.specs.Signed.{larger};
 ghost use Rattle.rules.specs.Plan.{Link, version1};
 ghost use Rattle.rules.specs.Edges.{spread as spreadOf};
-ghost use Rattle.rules.specs.Cells.{mark, num, _+ᶜ_, lowered, uppered, Within};
+ghost use Rattle.rules.specs.Cells.{mark, _+ᶜ_, lowered, uppered, Within};
 ghost use Rattle.cell.specs.Steps.{cell32, isMark, belowᶜ, smallerᶜ, Stored, clamped, Decides};
 
 // A cell of the paper's tables. The mark is 2,147,483,647, the reach 63,000,000.

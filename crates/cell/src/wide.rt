@@ -9,7 +9,7 @@ ghost use mir.Val.{SFits};
 ghost use Rattle.whole.specs.Signed.{larger};
 ghost use Rattle.rules.specs.Plan.{Link, version1};
 ghost use Rattle.rules.specs.Edges.{spread as spreadOf};
-ghost use Rattle.rules.specs.Cells.{mark, num, _+ᶜ_, lowered, uppered, Within};
+ghost use Rattle.rules.specs.Cells.{mark, _+ᶜ_, lowered, uppered, Within};
 ghost use Rattle.cell.specs.Steps.{adding, cell32, cell64, isMark, belowᶜ, smallerᶜ, Stored, clamped, Decides};
 
 // A cell of the tables that Add works in. The mark is 9,223,372,036,854,775,807, the reach 63 times 63,000,000.

@@ -50,6 +50,7 @@ by-mag : (a : ℤ) {n : ℕ} → max (suc (up a) - dn a) (dn a - up a) ≤ n →
 by-mag (pos a) h = omega arith
 by-mag (negsuc a) h = omega arith
 
+-- all that, of a number that fits
 pub kept : {w : Width} {a : ℤ} → SFits w a → Kept w a
 kept {w} {a} h =
     record {
@@ -70,13 +71,15 @@ pub of-fits : (w : Width) (a : ℤ) → SFits w a → up a + dn a ≤ 2 ^ hbits 
 of-fits w (pos n) h = omega (arith, h .sfits)
 of-fits w (negsuc n) h = omega (arith, h .sfits)
 
--- the magnitude of a sum, of a negation and of a difference
+-- the magnitude of a sum
 pub mag-add : (a b : ℤ) → mag (a +ℤ b) < suc (suc (mag a + mag b))
 mag-add a b = by-mag (a +ℤ b) (omega (arith, plus a b, mag-up a, mag-up b, mag-dn a, mag-dn b))
 
+-- of a negation
 pub mag-neg : (a : ℤ) → mag (negℤ a) ≤ suc (mag a)
 mag-neg a = le-of-suc-le-suc (by-mag (negℤ a) (omega (arith, neg a, mag-up a, mag-dn a)))
 
+-- and of a difference
 pub mag-sub : (a b : ℤ) → mag (a -ℤ b) < suc (suc (mag a + mag b))
 mag-sub a b = by-mag (a -ℤ b) (omega (arith, plus a (negℤ b), neg b, mag-up a, mag-up b, mag-dn a, mag-dn b))
 
@@ -94,21 +97,22 @@ nle (pos a) (negsuc b) t = tt
 nle (negsuc a) (pos b) t = t
 nle (negsuc a) (negsuc b) t = lt→ltb a b (nleb→lt b a t)
 
--- a flag of `<` or `>` that was set, and one that was not, by the parts of the numbers compared
+-- a flag of `<` or `>` that was set, by the parts of the numbers compared
 pub ltZ-true : (a b : ℤ) → ltZ a b ≡ true → up a + dn b < up b + dn a
 ltZ-true a b e = lt a b (ltZ-yes (T-true (ltZ a b) e))
 
+-- and one that was not
 pub ltZ-false : (a b : ℤ) → ltZ a b ≡ false → up b + dn a ≤ up a + dn b
 ltZ-false a b e = le b a (ltZ-no (T-false (ltZ a b) e))
 
--- the same of `<=` and `>=`
+-- a flag of `<=` or `>=` that was set
 pub leZ-true : (a b : ℤ) → leZ a b ≡ true → up a + dn b ≤ up b + dn a
 leZ-true a b e = le a b (leZ-yes (T-true (leZ a b) e))
 
+-- and one that was not
 pub leZ-false : (a b : ℤ) → leZ a b ≡ false → up b + dn a < up a + dn b
 leZ-false a b e = lt b a (ltZ-yes (nle a b (T-false (leZ a b) e)))
 
--- the other way: the flag from the fact, where a contract speaks of the flag
 T-is : (b : Bool) → T b → b ≡ true
 T-is true t = refl
 T-is false t = absurd t
@@ -120,9 +124,11 @@ T-not-is false t = refl
 nlt : (a b : ℤ) → T (leZ b a) → T (not (ltZ a b))
 nlt a b t = not-T (ltZ a b) (λ l. omega (arith, le b a (leZ-yes t), lt a b (ltZ-yes l)))
 
+-- the other way: the flag from the fact, where a contract speaks of the flag
 pub lt-ltZ : (a b : ℤ) → a <ℤ b → ltZ a b ≡ true
 lt-ltZ a b h = T-is (ltZ a b) (h .lt)
 
+-- and that it is not set
 pub le-ltZ : (a b : ℤ) → b ≤ℤ a → ltZ a b ≡ false
 le-ltZ a b h = T-not-is (ltZ a b) (nlt a b (h .le))
 
@@ -152,15 +158,17 @@ differ w h e = h (ap (ofZ w) e)
 
 -- ---- sums, differences, negations and casts as code leaves them
 
--- the result of a sum, a difference and a negation (which is 0 less the number) that fit
+-- the result of a sum that fits
 pub sum-is : {w : Width} {a b : ℤ} → SFits w a → SFits w b → SFits w (a +ℤ b)
     → toZ w (ofZ w (toZ w (ofZ w a) +ℤ toZ w (ofZ w b))) ≡ a +ℤ b
 sum-is h k s = simp (back h, back k, back s)
 
+-- of a difference
 pub difference-is : {w : Width} {a b : ℤ} → SFits w a → SFits w b → SFits w (a -ℤ b)
     → toZ w (ofZ w (toZ w (ofZ w a) -ℤ toZ w (ofZ w b))) ≡ a -ℤ b
 difference-is h k s = simp (back h, back k, back s)
 
+-- of a negation, which code computes as 0 less the number
 pub negation-is : {w : Width} {a : ℤ} → SFits w a → SFits w (negℤ a)
     → toZ w (ofZ w (pos zero -ℤ toZ w (ofZ w a))) ≡ negℤ a
 negation-is {w} {a} h s = simp (back h, +ℤ-idl, back s)

@@ -1,7 +1,7 @@
 -- Where a cell of a table of n rows and n columns lies in the table's list: row i, column j at the index i * n + j. A product of two
 -- variables is no matter for omega, so what is asked of such an index again and again is proved here: that it lies within the list and
 -- fits its type, which row and column it belongs to, and what a cell holds after a cell was written. Assumes nothing.
-use mathlib.Core.Path.{_≡_, refl, sym, ap, _∙_}
+use mathlib.Core.Path.{_≡_, sym, ap, _∙_}
 use mathlib.Core.List.{List}
 use mathlib.Core.Logic.{_⊎_, inl, inr}
 use Prim.Native.Nat.{ℕ, zero, suc, _+_, _*_, _/_, _%_, _≤_, _<_}

@@ -17,7 +17,8 @@ returns : tie.Need-returns
 unfolding adding
 returns c =
     let s = c .before in
-    c .mark .ensures ∙ sym (clamp-above room64 (s .before .before .args .self .v) (tested (s .before .less .ensures) (s .if1 .taken)))
+    let f = tested (s .before .less .ensures) (s .if1 .taken) in
+    c .mark .ensures ∙ sym (clamp-above room64 (s .before .before .args .self .v) f)
 
 less-requires-2 : tie.Need-less-requires-2
 less-requires-2 c κs = search needs
@@ -26,13 +27,17 @@ returns-2 : tie.Need-returns-2
 unfolding adding
 returns-2 c =
     let s = c .before .before in
-    sym (clamp-below room64 (s .before .before .args .self .v) (tested (s .before .less .ensures) (s .if1 .left)) (tested (c .before .less2 .ensures) (c .if2 .taken)))
+    let f = tested (s .before .less .ensures) (s .if1 .left) in
+    let g = tested (c .before .less2 .ensures) (c .if2 .taken) in
+    sym (clamp-below room64 (s .before .before .args .self .v) f g)
 
 returns-3 : tie.Need-returns-3
 unfolding adding
 returns-3 c =
     let s = c .before .before in
-    sym (clamp-within room64 (s .before .before .args .self .v) (tested (s .before .less .ensures) (s .if1 .left)) (tested (c .before .less2 .ensures) (c .if2 .left)))
+    let f = tested (s .before .less .ensures) (s .if1 .left) in
+    let g = tested (c .before .less2 .ensures) (c .if2 .left) in
+    sym (clamp-within room64 (s .before .before .args .self .v) f g)
 
 pub kept-spec : {M : Type 1} → statement M
 kept-spec =

@@ -1,9 +1,9 @@
 -- `Cell64::narrowed` meets its contract: the mark becomes the mark, and a number of the reach keeps its value. Assumes nothing.
 use borrow.Author.Needs.{needs}
 use mathlib.Core.Path.{_≡_, sym, _∙_}
-use mir.Syntax.{w32, w64}
+use mir.Syntax.{w64}
 use mir.Val.{SFits}
-use Rattle.whole.proofs.Bits.{signed, back, fit, kept}
+use Rattle.whole.proofs.Bits.{signed, back, fit}
 use Rattle.rules.specs.Plan.{version1}
 use Rattle.rules.specs.Cells.{num, Within}
 use Rattle.cell.specs.Steps.{adding, cell64}

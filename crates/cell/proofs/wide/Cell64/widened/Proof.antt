@@ -1,7 +1,7 @@
 -- `Cell64::widened` meets its contract: the mark becomes the mark, and a number keeps its value. Assumes nothing.
 use borrow.Author.Needs.{needs}
 use mathlib.Core.Path.{_≡_, sym, _∙_}
-use mir.Syntax.{w32, w64}
+use mir.Syntax.{w32}
 use mir.Val.{SFits}
 use Rattle.whole.proofs.Bits.{signed, back, fit, kept}
 use Rattle.rules.specs.Plan.{version1}
