@@ -8,3 +8,4 @@ pub mod Heights
 pub mod First
 pub mod Going
 pub mod Turns
+pub mod Ready
