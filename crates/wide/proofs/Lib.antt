@@ -1,0 +1,2 @@
+-- What Add's sweep starts from, with no code in sight.
+pub mod Start
