@@ -1,0 +1,4 @@
+-- The sweep run by the checker itself, and the paper's cases by it.
+pub mod Tests
+pub mod Run
+pub mod Cases
