@@ -1,9 +1,9 @@
 -- What a sound file gives: the reader's answer is Done exactly for the paper's plan files, and then one record holds all that
 -- later proofs need of the bytes. With Add's limit it is Done exactly where both the file and the limit are in range.
 -- Assumes nothing.
-use mathlib.Core.Path.{_≡_, refl}
+use mathlib.Core.Path.{_≡_, refl, sym, _∙_}
 use mathlib.Core.Logic.{_↔_, _≢_, ⊎-elim}
-use mathlib.Core.Bool.{Bool, true, _&&_}
+use mathlib.Core.Bool.{Bool, true, false, not, _&&_}
 use mathlib.Core.List.{List, [], List·Memᴰ, List·Memᴰ·not-nil}
 use Prim.Native.Nat.{ℕ, zero, suc, _+_, _≤_, _<_}
 use native.Mathlib.Nat.{zero-add, eq-or-lt-of-le}
@@ -12,14 +12,15 @@ use lib.Dec.{leb, eqb}
 use lib.ListN.{length}
 use borrow.Author.Tests.{leb-true, eqb-true, le-leb, eq-eqb}
 use Rattle.rules.specs.Plan.{Limit, Link, version1, LimitInRange, LinkInRange, Unshared, InRange}
+use Rattle.rules.specs.Answers.{codeOf}
 use Rattle.rules.specs.declared.Answer.{Answer}
 use Rattle.rules.specs.declared.Answer.the-variants.{Done, FewBytes, BadVersion, BadPoints, BadCounts, BadLayout, BadLimit}
 use Rattle.plan.specs.declared.Header.{Header}
 use Rattle.plan.specs.Layout.{headOf, limitOffset, linkOffset, limitAt, linkAt, records, planOf}
 use Rattle.answers.specs.Order.{_then_, unless}
-use Rattle.answers.proofs.Codes.{then-done, done-then, unless-done, done-unless}
+use Rattle.answers.proofs.Codes.{code-zero, then-done, done-then, unless-done, done-unless}
 use Rattle.plan.specs.File.{pointsFit, countsFit, laidOut, headAnswer, limitFits, limitPlace, limitsAnswer, linksAnswer, frontAnswer, fileAnswer, addAnswer, PlanFile}
-use Rattle.plan.proofs.Tests.{both, and}
+use Rattle.plan.proofs.Tests.{passed, both, and}
 use Rattle.plan.proofs.Records.{Listed, records-length, record-in, in-records}
 use Rattle.plan.proofs.Decide.{limit-ok, ok-limit, limits-ok, ok-limits, LinksOk, links-ok, ok-links}
 
@@ -234,6 +235,23 @@ add-exactly s added = (there, back)
         let p = then-done (frontAnswer s) (to-links s) (g .0) in
         let own = done-unless fits refusal (ok-limit version1 (planOf s .points) added (g .1)) in
         done-then (frontAnswer s) (unless fits refusal then to-links s) (p .0) (done-then (unless fits refusal) (to-links s) own (p .1))
+
+-- ---- from what the calls ensure: a is what `sound` or `sound_with` answered, t what `accepted` said of it
+
+accepted-is : {a : Answer} {t : Bool} (b : Answer) → a ≡ b → t ≡ eqb (codeOf a) 0 → not t ≡ false → b ≡ Done
+accepted-is {a} b p e u = sym p ∙ code-zero a (passed e u)
+
+pub good-file : (s : List ℕ) {a : Answer} {t : Bool} → a ≡ fileAnswer s → t ≡ eqb (codeOf a) 0 → not t ≡ false → Good s
+good-file s p e u = good s (accepted-is (fileAnswer s) p e u)
+
+pub good-add : (s : List ℕ) (added : Limit) {a : Answer} {t : Bool}
+    → a ≡ addAnswer s added
+    → t ≡ eqb (codeOf a) 0
+    → not t ≡ false
+    → Good s × LimitInRange version1 (headOf s .points) added
+good-add s added p e u =
+    let both-ok = add-exactly s added .0 (accepted-is (addAnswer s added) p e u) in
+    (good s (both-ok .0), rw points-is at (both-ok .1))
 
 -- ---- what later proofs ask by index
 
