@@ -29,11 +29,11 @@ less-one : (k : ℕ) → negsuc 0 -ℤ pos k ≡ negsuc k
 less-one zero = refl
 less-one (suc k) = simp zero-add
 
--- what the code computes from 2^31 on, and that it fits
+-- what the code computes from 2^31 on
 pub from-below : (w : ℕ) → 2_147_483_648 ≤ w → w < 4_294_967_296 → negsuc 0 -ℤ toZ w32 (4_294_967_295 - w) ≡ negsuc (4_294_967_295 - w)
 from-below w h l = rw (toZ-pos w32 (4_294_967_295 - w) (omega arith)) (less-one (4_294_967_295 - w))
 
--- "exact at" both ends of the 32 bits, at zero and one below it
+-- exact at both ends of the 32 bits, at zero and one below it
 corners : List ℤ
 corners =
     signedAt (0 ∷ 0 ∷ 0 ∷ 128 ∷ []) 0

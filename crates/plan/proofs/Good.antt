@@ -1,25 +1,26 @@
 -- What a sound file gives: the reader's answer is Done exactly for the paper's plan files, and then one record holds all that
 -- later proofs need of the bytes. With Add's limit it is Done exactly where both the file and the limit are in range.
 -- Assumes nothing.
-use mathlib.Core.Path.{_≡_, refl}
-use mathlib.Core.Logic.{_↔_}
-use mathlib.Core.Bool.{true, _&&_}
+use mathlib.Core.Path.{_≡_, refl, sym, _∙_}
+use mathlib.Core.Logic.{_↔_, _≢_, ⊎-elim}
+use mathlib.Core.Bool.{Bool, true, false, not, _&&_}
 use mathlib.Core.List.{List, [], List·Memᴰ, List·Memᴰ·not-nil}
-use Prim.Native.Nat.{ℕ, _≤_, _<_}
-use native.Mathlib.Nat.{zero-add}
+use Prim.Native.Nat.{ℕ, zero, suc, _+_, _≤_, _<_}
+use native.Mathlib.Nat.{zero-add, eq-or-lt-of-le}
 use native.Mathlib.Omega.{arith}
 use lib.Dec.{leb, eqb}
 use lib.ListN.{length}
 use borrow.Author.Tests.{leb-true, eqb-true, le-leb, eq-eqb}
-use Rattle.rules.specs.Plan.{Limit, Link, version1, LimitInRange, InRange}
+use Rattle.rules.specs.Plan.{Limit, Link, version1, LimitInRange, LinkInRange, Unshared, InRange}
+use Rattle.rules.specs.Answers.{codeOf}
 use Rattle.rules.specs.declared.Answer.{Answer}
 use Rattle.rules.specs.declared.Answer.the-variants.{Done, FewBytes, BadVersion, BadPoints, BadCounts, BadLayout, BadLimit}
 use Rattle.plan.specs.declared.Header.{Header}
-use Rattle.plan.specs.Layout.{headOf, limitOffset, linkOffset, limitAt, linkAt, planOf}
+use Rattle.plan.specs.Layout.{headOf, limitOffset, linkOffset, limitAt, linkAt, records, planOf}
 use Rattle.answers.specs.Order.{_then_, unless}
-use Rattle.answers.proofs.Codes.{then-done, done-then, unless-done, done-unless}
-use Rattle.plan.specs.File.{pointsFit, countsFit, laidOut, headAnswer, limitFits, limitPlace, limitAnswer, limitsAnswer, linksAnswer, frontAnswer, fileAnswer, addAnswer, PlanFile}
-use Rattle.plan.proofs.Tests.{both, and}
+use Rattle.answers.proofs.Codes.{code-zero, then-done, done-then, unless-done, done-unless}
+use Rattle.plan.specs.File.{pointsFit, countsFit, laidOut, headAnswer, limitFits, limitPlace, limitsAnswer, linksAnswer, frontAnswer, fileAnswer, addAnswer, PlanFile}
+use Rattle.plan.proofs.Tests.{passed, both, and}
 use Rattle.plan.proofs.Records.{Listed, records-length, record-in, in-records}
 use Rattle.plan.proofs.Decide.{limit-ok, ok-limit, limits-ok, ok-limits, LinksOk, links-ok, ok-links}
 
@@ -78,22 +79,32 @@ ok-head size h g =
 
 -- ---- the whole file
 
--- the parts of a Done answer to a file
-parts : (s : List ℕ) → fileAnswer s ≡ Done → (headAnswer (length s) (headOf s) ≡ Done) × (limitsAnswer version1 (planOf s .points) 0 (planOf s .limits) ≡ Done) × (linksAnswer version1 (planOf s .points) 0 [] (planOf s .links) ≡ Done)
+-- the answers to a file's limits and to its links
+abbrev to-limits : List ℕ → Answer
+to-limits s = limitsAnswer version1 (planOf s .points) 0 (planOf s .limits)
+
+abbrev to-links : List ℕ → Answer
+to-links s = linksAnswer version1 (planOf s .points) 0 [] (planOf s .links)
+
+-- a file's answer is Done exactly where the three parts are
+parts : (s : List ℕ)
+    → fileAnswer s ≡ Done
+    → (headAnswer (length s) (headOf s) ≡ Done) × (to-limits s ≡ Done) × (to-links s ≡ Done)
 unfolding fileAnswer frontAnswer
 parts s e =
-    let limits = limitsAnswer version1 (planOf s .points) 0 (planOf s .limits) in
-    let links = linksAnswer version1 (planOf s .points) 0 [] (planOf s .links) in
-    let p = then-done (headAnswer (length s) (headOf s) then limits) links e in
-    let q = then-done (headAnswer (length s) (headOf s)) limits (p .0) in
+    let p = then-done (headAnswer (length s) (headOf s) then to-limits s) (to-links s) e in
+    let q = then-done (headAnswer (length s) (headOf s)) (to-limits s) (p .0) in
     (q .0, q .1, p .1)
 
-joined : (s : List ℕ) → headAnswer (length s) (headOf s) ≡ Done → limitsAnswer version1 (planOf s .points) 0 (planOf s .limits) ≡ Done → linksAnswer version1 (planOf s .points) 0 [] (planOf s .links) ≡ Done → fileAnswer s ≡ Done
+joined : (s : List ℕ)
+    → headAnswer (length s) (headOf s) ≡ Done
+    → to-limits s ≡ Done
+    → to-links s ≡ Done
+    → fileAnswer s ≡ Done
 unfolding fileAnswer frontAnswer
 joined s a b c =
-    let limits = limitsAnswer version1 (planOf s .points) 0 (planOf s .limits) in
-    let links = linksAnswer version1 (planOf s .points) 0 [] (planOf s .links) in
-    done-then (headAnswer (length s) (headOf s) then limits) links (done-then (headAnswer (length s) (headOf s)) limits a b) c
+    let front = done-then (headAnswer (length s) (headOf s)) (to-limits s) a b in
+    done-then (headAnswer (length s) (headOf s) then to-limits s) (to-links s) front c
 
 -- the plan's lists are as long as the header says
 pub limits-length : (s : List ℕ) → length (planOf s .limits) ≡ headOf s .limits
@@ -109,7 +120,11 @@ unfolding planOf
 points-is s = refl
 
 -- every range of the paper, from the three parts
-in-range : (s : List ℕ) → HeadOk (length s) (headOf s) → ((m : Limit) → List·Memᴰ m (planOf s .limits) → LimitInRange version1 (planOf s .points) m) → LinksOk version1 (planOf s .points) [] (planOf s .links) → InRange version1 (planOf s)
+in-range : (s : List ℕ)
+    → HeadOk (length s) (headOf s)
+    → ((m : Limit) → List·Memᴰ m (planOf s .limits) → LimitInRange version1 (planOf s .points) m)
+    → LinksOk version1 (planOf s .points) [] (planOf s .links)
+    → InRange version1 (planOf s)
 in-range s h l k =
     record {
       some-point = rw points-is (h .some-point);
@@ -142,11 +157,13 @@ unfolding planOf
 good s e =
     let p = parts s e in
     let h = head-ok (length s) (headOf s) (p .0) in
+    let limits = limits-ok version1 (planOf s .points) 0 (planOf s .limits) (p .1) in
+    let links = links-ok version1 (planOf s .points) 0 [] (planOf s .links) (p .2) in
     let m = headOf s .limits in
     let k = headOf s .links in
     record {
       head = h;
-      ranges = in-range s h (limits-ok version1 (planOf s .points) 0 (planOf s .limits) (p .1)) (links-ok version1 (planOf s .points) 0 [] (planOf s .links) (p .2));
+      ranges = in-range s h limits links;
       points = points-is s;
       limits = limits-length s;
       links = links-length s;
@@ -194,26 +211,66 @@ sound-exactly s = (there, back)
 
 -- ---- with Add's limit
 
-pub add-exactly : (s : List ℕ) (added : Limit) → (addAnswer s added ≡ Done) ↔ ((fileAnswer s ≡ Done) × LimitInRange version1 (planOf s .points) added)
+pub add-exactly : (s : List ℕ) (added : Limit)
+    → (addAnswer s added ≡ Done) ↔ ((fileAnswer s ≡ Done) × LimitInRange version1 (planOf s .points) added)
 unfolding addAnswer fileAnswer
 add-exactly s added = (there, back)
   where
-    links : Answer
-    links = linksAnswer version1 (planOf s .points) 0 [] (planOf s .links)
+    fits : Bool
+    fits = limitFits version1 (planOf s .points) added
 
-    own : Answer
-    own = limitAnswer version1 (planOf s .points) (headOf s .limits) added
+    refusal : Answer
+    refusal = BadLimit (limitPlace (headOf s .limits))
 
     there : addAnswer s added ≡ Done → (fileAnswer s ≡ Done) × LimitInRange version1 (planOf s .points) added
     there e =
-        let p = then-done (frontAnswer s) (own then links) e in
-        let q = then-done own links (p .1) in (
-          done-then (frontAnswer s) links (p .0) (q .1),
-          limit-ok version1 (planOf s .points) added (unless-done (limitFits version1 (planOf s .points) added) (BadLimit (limitPlace (headOf s .limits))) refl (q .0)),
+        let p = then-done (frontAnswer s) (unless fits refusal then to-links s) e in
+        let q = then-done (unless fits refusal) (to-links s) (p .1) in (
+          done-then (frontAnswer s) (to-links s) (p .0) (q .1),
+          limit-ok version1 (planOf s .points) added (unless-done fits refusal refl (q .0)),
         )
 
     back : (fileAnswer s ≡ Done) × LimitInRange version1 (planOf s .points) added → addAnswer s added ≡ Done
     back g =
-        let p = then-done (frontAnswer s) links (g .0) in
-        let fits = done-unless (limitFits version1 (planOf s .points) added) (BadLimit (limitPlace (headOf s .limits))) (ok-limit version1 (planOf s .points) added (g .1)) in
-        done-then (frontAnswer s) (own then links) (p .0) (done-then own links fits (p .1))
+        let p = then-done (frontAnswer s) (to-links s) (g .0) in
+        let own = done-unless fits refusal (ok-limit version1 (planOf s .points) added (g .1)) in
+        done-then (frontAnswer s) (unless fits refusal then to-links s) (p .0) (done-then (unless fits refusal) (to-links s) own (p .1))
+
+-- ---- from what the calls ensure: a is what `sound` or `sound_with` answered, t what `accepted` said of it
+
+accepted-is : {a : Answer} {t : Bool} (b : Answer) → a ≡ b → t ≡ eqb (codeOf a) 0 → not t ≡ false → b ≡ Done
+accepted-is {a} b p e u = sym p ∙ code-zero a (passed e u)
+
+pub good-file : (s : List ℕ) {a : Answer} {t : Bool} → a ≡ fileAnswer s → t ≡ eqb (codeOf a) 0 → not t ≡ false → Good s
+good-file s p e u = good s (accepted-is (fileAnswer s) p e u)
+
+pub good-add : (s : List ℕ) (added : Limit) {a : Answer} {t : Bool}
+    → a ≡ addAnswer s added
+    → t ≡ eqb (codeOf a) 0
+    → not t ≡ false
+    → Good s × LimitInRange version1 (headOf s .points) added
+good-add s added p e u =
+    let both-ok = add-exactly s added .0 (accepted-is (addAnswer s added) p e u) in
+    (good s (both-ok .0), rw points-is at (both-ok .1))
+
+-- ---- what later proofs ask by index
+
+-- limit i and link i are in range for the n that the header names
+pub limit-ranged : (s : List ℕ) → Good s → (i : ℕ) → i < headOf s .limits → LimitInRange version1 (headOf s .points) (limitAt s i)
+limit-ranged s g i l = rw points-is at (g .ranges .limit (limitAt s i) (g .limit-in i l))
+
+pub link-ranged : (s : List ℕ) → Good s → (i : ℕ) → i < headOf s .links → LinkInRange version1 (headOf s .points) (linkAt s (headOf s .limits) i)
+link-ranged s g i l = rw points-is at (g .ranges .link (linkAt s (headOf s .limits) i) (g .link-in i l))
+
+-- two links at different indices have different contingent points
+apart : (f : ℕ → Link) (i n a b : ℕ) → Unshared (records f i n) → i ≤ a → a < b → b < i + n → f b .con ≢ f a .con
+apart f i zero a b u p q r = absurd (omega arith)
+apart f i (suc n) a b u p q r =
+    ⊎-elim
+    (λ (e : i ≡ a). rw (← e) (u .0 (f b) (record-in f (suc i) n b (omega arith) (omega arith))))
+    (λ (l : i < a). apart f (suc i) n a b (u .1) l q (omega arith))
+    (eq-or-lt-of-le p)
+
+pub links-apart : (s : List ℕ) → Good s → (a b : ℕ) → a < b → b < headOf s .links → linkAt s (headOf s .limits) b .con ≢ linkAt s (headOf s .limits) a .con
+unfolding planOf
+links-apart s g a b l h = apart (linkAt s (headOf s .limits)) 0 (headOf s .links) a b (g .ranges .unshared) (omega arith) l (omega arith)

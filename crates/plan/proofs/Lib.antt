@@ -3,4 +3,5 @@ pub mod Turns
 pub mod Records
 pub mod Decide
 pub mod Good
+pub mod Cases
 pub mod Tests

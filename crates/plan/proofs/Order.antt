@@ -15,40 +15,48 @@ use Rattle.plan.specs.Layout.{headOf, limitAt, linkAt, records, planOf}
 use Rattle.plan.specs.File.{headAnswer, limitFits, limitPlace, limitsAnswer, linksAnswer, frontAnswer, fileAnswer, addAnswer}
 use Rattle.plan.proofs.Tests.{failed, passed}
 
-module _ (s : List ℕ) (a : Answer) (t : Bool) (e : t ≡ eqb (codeOf a) 0) where
+module _ (s : List ℕ) {a : Answer} {t : Bool} (e : t ≡ eqb (codeOf a) 0) where
   -- ---- the header, then the limits
 
-  module _ (h : Header) (q : h ≡ headOf s) (p : a ≡ headAnswer (length s) h) where
+  module _ {h : Header} (q : h ≡ headOf s) (p : a ≡ headAnswer (length s) h) where
     pub front-stop : not t ≡ true → a ≡ frontAnswer s
     unfolding frontAnswer planOf
-    front-stop u = rw (← q, ← p, failed t e u)
+    front-stop u = rw (← q, ← p, failed e u)
 
-    pub front-next : not t ≡ false → (b : Answer) → b ≡ limitsAnswer version1 (h .points) 0 (records (limitAt s) 0 (h .limits)) → b ≡ frontAnswer s
+    pub front-next : not t ≡ false
+        → {b : Answer}
+        → b ≡ limitsAnswer version1 (h .points) 0 (records (limitAt s) 0 (h .limits))
+        → b ≡ frontAnswer s
     unfolding frontAnswer planOf
-    front-next u b r = rw (← q, ← p, passed t e u) r
+    front-next u r = rw (← q, ← p, passed e u) r
 
   -- ---- those, then the links
 
   module _ (p : a ≡ frontAnswer s) where
     pub file-stop : not t ≡ true → a ≡ fileAnswer s
     unfolding fileAnswer
-    file-stop u = rw (← p, failed t e u)
+    file-stop u = rw (← p, failed e u)
 
     pub add-stop : (added : Limit) → not t ≡ true → a ≡ addAnswer s added
     unfolding addAnswer
-    add-stop added u = rw (← p, failed t e u)
+    add-stop added u = rw (← p, failed e u)
 
-    module _ (u : not t ≡ false) (h : Header) (q : h ≡ headOf s) where
-      pub file-next : (b : Answer) → b ≡ linksAnswer version1 (h .points) 0 [] (records (linkAt s (h .limits)) 0 (h .links)) → b ≡ fileAnswer s
+    module _ (u : not t ≡ false) {h : Header} (q : h ≡ headOf s) where
+      pub file-next : {b : Answer}
+          → b ≡ linksAnswer version1 (h .points) 0 [] (records (linkAt s (h .limits)) 0 (h .links))
+          → b ≡ fileAnswer s
       unfolding fileAnswer planOf
-      file-next b r = rw (← p, passed t e u, ← q) r
+      file-next r = rw (← p, passed e u, ← q) r
 
       -- ---- Add's limit between them: y is what the test said of it
-      module _ (added : Limit) (y : Bool) (f : y ≡ limitFits version1 (h .points) added) where
+      module _ (added : Limit) {y : Bool} (f : y ≡ limitFits version1 (h .points) added) where
         pub add-own : not y ≡ true → BadLimit (limitPlace (h .limits)) ≡ addAnswer s added
         unfolding addAnswer planOf
-        add-own v = rw (← p, passed t e u, ← q, failed y f v)
+        add-own v = rw (← p, passed e u, ← q, failed f v)
 
-        pub add-next : not y ≡ false → (b : Answer) → b ≡ linksAnswer version1 (h .points) 0 [] (records (linkAt s (h .limits)) 0 (h .links)) → b ≡ addAnswer s added
+        pub add-next : not y ≡ false
+            → {b : Answer}
+            → b ≡ linksAnswer version1 (h .points) 0 [] (records (linkAt s (h .limits)) 0 (h .links))
+            → b ≡ addAnswer s added
         unfolding addAnswer planOf
-        add-next v b r = rw (← p, passed t e u, ← q, passed y f v) r
+        add-next v r = rw (← p, passed e u, ← q, passed f v) r

@@ -5,12 +5,12 @@ use mathlib.Core.Bool.{Bool, true, false, not, _&&_, and-eq-true-iff}
 use borrow.Author.Tests.{not-true, not-false}
 
 -- the negation held: the test failed
-pub failed : (r : Bool) {t : Bool} → r ≡ t → not r ≡ true → t ≡ false
-failed r e n = sym e ∙ not-true r n
+pub failed : {r t : Bool} → r ≡ t → not r ≡ true → t ≡ false
+failed {r} e n = sym e ∙ not-true r n
 
 -- the negation did not hold: the test passed
-pub passed : (r : Bool) {t : Bool} → r ≡ t → not r ≡ false → t ≡ true
-passed r e n = sym e ∙ not-false r n
+pub passed : {r t : Bool} → r ≡ t → not r ≡ false → t ≡ true
+passed {r} e n = sym e ∙ not-false r n
 
 -- two tests hold together exactly where each does
 pub both : (a b : Bool) → (a && b) ≡ true → (a ≡ true) × (b ≡ true)

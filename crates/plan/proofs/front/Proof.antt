@@ -15,13 +15,23 @@ accepted-requires : tie.Need-accepted-requires
 accepted-requires c κs = search needs
 
 returns : tie.Need-returns
-returns c = front-stop (c .before .before .before .before .before .args .file .now) (c .before .before .head-answer .result) (c .before .accepted .result) (c .before .accepted .ensures) (c .before .before .before .head .result) (c .before .before .before .head .ensures) (c .before .before .head-answer .ensures) (c .if1 .taken)
+returns c =
+    let ok = c .before in
+    let answer = ok .before in
+    let head = answer .before in
+    front-stop (head .before .before .args .file .now) (ok .accepted .ensures) (head .head .ensures) (answer .head-answer .ensures) (c .if1 .taken)
 
 limits-requires : tie.Need-limits-requires
 limits-requires c κs = search needs
 
 returns-2 : tie.Need-returns-2
-returns-2 c = front-next (c .before .before .before .before .before .before .args .file .now) (c .before .before .before .head-answer .result) (c .before .before .accepted .result) (c .before .before .accepted .ensures) (c .before .before .before .before .head .result) (c .before .before .before .before .head .ensures) (c .before .before .before .head-answer .ensures) (c .before .if1 .left) (c .limits .result) (c .limits .ensures)
+returns-2 c =
+    let ok = c .before .before in
+    let answer = ok .before in
+    let head = answer .before in
+    front-next (head .before .before .args .file .now) (ok .accepted .ensures) (head .head .ensures) (answer .head-answer .ensures)
+    (c .before .if1 .left)
+    (c .limits .ensures)
 
 pub front-spec : {M : Type 1} → statement M
 front-spec =

@@ -13,7 +13,9 @@ returns c = simp (lt-leb _ _ (c .if1 .taken))
 
 returns-2 : tie.Need-returns-2
 unfolding headAnswer
-returns-2 c = simp (le-leb _ _ (c .before .before .if1 .left), ne-eqb _ _ (c .if2 .taken))
+returns-2 c =
+    let size = c .before .before in
+    simp (le-leb _ _ (size .if1 .left), ne-eqb _ _ (c .if2 .taken))
 
 points-fit-requires : tie.Need-points-fit-requires
 points-fit-requires c κs = search needs
@@ -21,7 +23,10 @@ points-fit-requires c κs = search needs
 returns-3 : tie.Need-returns-3
 unfolding headAnswer
 returns-3 c =
-    simp (le-leb _ _ (c .before .before .before .before .if1 .left), eq-eqb _ _ (c .before .before .if2 .left), failed (c .before .points-fit .result) (c .before .points-fit .ensures) (c .if3 .taken))
+    let points = c .before in
+    let version = points .before in
+    let size = version .before .before in
+    simp (le-leb _ _ (size .if1 .left), eq-eqb _ _ (version .if2 .left), failed (points .points-fit .ensures) (c .if3 .taken))
 
 counts-fit-requires : tie.Need-counts-fit-requires
 counts-fit-requires c κs = search needs
@@ -29,7 +34,16 @@ counts-fit-requires c κs = search needs
 returns-4 : tie.Need-returns-4
 unfolding headAnswer
 returns-4 c =
-    simp (le-leb _ _ (c .before .before .before .before .before .before .if1 .left), eq-eqb _ _ (c .before .before .before .before .if2 .left), passed (c .before .before .before .points-fit .result) (c .before .before .before .points-fit .ensures) (c .before .before .if3 .left), failed (c .before .counts-fit .result) (c .before .counts-fit .ensures) (c .if4 .taken))
+    let counts = c .before in
+    let points = counts .before .before in
+    let version = points .before in
+    let size = version .before .before in
+    simp (
+      le-leb _ _ (size .if1 .left),
+      eq-eqb _ _ (version .if2 .left),
+      passed (points .points-fit .ensures) (counts .before .if3 .left),
+      failed (counts .counts-fit .ensures) (c .if4 .taken),
+    )
 
 laid-out-requires : tie.Need-laid-out-requires
 laid-out-requires c κs = search needs
@@ -37,12 +51,34 @@ laid-out-requires c κs = search needs
 returns-5 : tie.Need-returns-5
 unfolding headAnswer
 returns-5 c =
-    simp (le-leb _ _ (c .before .before .before .before .before .before .before .before .if1 .left), eq-eqb _ _ (c .before .before .before .before .before .before .if2 .left), passed (c .before .before .before .before .before .points-fit .result) (c .before .before .before .before .before .points-fit .ensures) (c .before .before .before .before .if3 .left), passed (c .before .before .before .counts-fit .result) (c .before .before .before .counts-fit .ensures) (c .before .before .if4 .left), failed (c .before .laid-out .result) (c .before .laid-out .ensures) (c .if5 .taken))
+    let layout = c .before in
+    let counts = layout .before .before in
+    let points = counts .before .before in
+    let version = points .before in
+    let size = version .before .before in
+    simp (
+      le-leb _ _ (size .if1 .left),
+      eq-eqb _ _ (version .if2 .left),
+      passed (points .points-fit .ensures) (counts .before .if3 .left),
+      passed (counts .counts-fit .ensures) (layout .before .if4 .left),
+      failed (layout .laid-out .ensures) (c .if5 .taken),
+    )
 
 returns-6 : tie.Need-returns-6
 unfolding headAnswer
 returns-6 c =
-    simp (le-leb _ _ (c .before .before .before .before .before .before .before .before .if1 .left), eq-eqb _ _ (c .before .before .before .before .before .before .if2 .left), passed (c .before .before .before .before .before .points-fit .result) (c .before .before .before .before .before .points-fit .ensures) (c .before .before .before .before .if3 .left), passed (c .before .before .before .counts-fit .result) (c .before .before .before .counts-fit .ensures) (c .before .before .if4 .left), passed (c .before .laid-out .result) (c .before .laid-out .ensures) (c .if5 .left))
+    let layout = c .before in
+    let counts = layout .before .before in
+    let points = counts .before .before in
+    let version = points .before in
+    let size = version .before .before in
+    simp (
+      le-leb _ _ (size .if1 .left),
+      eq-eqb _ _ (version .if2 .left),
+      passed (points .points-fit .ensures) (counts .before .if3 .left),
+      passed (counts .counts-fit .ensures) (layout .before .if4 .left),
+      passed (layout .laid-out .ensures) (c .if5 .left),
+    )
 
 pub head-answer-spec : {M : Type 1} → statement M
 head-answer-spec =

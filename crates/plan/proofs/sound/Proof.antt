@@ -12,7 +12,10 @@ accepted-requires : tie.Need-accepted-requires
 accepted-requires c κs = search needs
 
 returns : tie.Need-returns
-returns c = file-stop (c .before .before .before .before .args .file .now) (c .before .before .front .result) (c .before .accepted .result) (c .before .accepted .ensures) (c .before .before .front .ensures) (c .if1 .taken)
+returns c =
+    let ok = c .before in
+    let front = ok .before in
+    file-stop (front .before .before .args .file .now) (ok .accepted .ensures) (front .front .ensures) (c .if1 .taken)
 
 head-requires : tie.Need-head-requires
 head-requires c κs = search needs
@@ -21,7 +24,14 @@ links-requires : tie.Need-links-requires
 links-requires c κs = search needs
 
 returns-2 : tie.Need-returns-2
-returns-2 c = file-next (c .before .before .before .before .before .before .args .file .now) (c .before .before .before .before .front .result) (c .before .before .before .accepted .result) (c .before .before .before .accepted .ensures) (c .before .before .before .before .front .ensures) (c .before .before .if1 .left) (c .before .head .result) (c .before .head .ensures) (c .links .result) (c .links .ensures)
+returns-2 c =
+    let head = c .before in
+    let ok = head .before .before in
+    let front = ok .before in
+    file-next (front .before .before .args .file .now) (ok .accepted .ensures) (front .front .ensures)
+    (head .before .if1 .left)
+    (head .head .ensures)
+    (c .links .ensures)
 
 pub sound-spec : {M : Type 1} → statement M
 sound-spec =

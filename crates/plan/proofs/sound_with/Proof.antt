@@ -16,9 +16,11 @@ accepted-requires c κs = search needs
 
 returns : tie.Need-returns
 returns c =
-    let a = c .before .before .before .before .args in
+    let ok = c .before in
+    let front = ok .before in
+    let a = front .before .before .args in
     let added : Limit = record { from = a .x; to = a .y; weight = a .w } in
-    add-stop (a .file .now) (c .before .before .front .result) (c .before .accepted .result) (c .before .accepted .ensures) (c .before .before .front .ensures) added (c .if1 .taken)
+    add-stop (a .file .now) (ok .accepted .ensures) (front .front .ensures) added (c .if1 .taken)
 
 head-requires : tie.Need-head-requires
 head-requires c κs = search needs
@@ -28,18 +30,41 @@ limit-fits-requires c κs = search needs
 
 returns-2 : tie.Need-returns-2
 returns-2 c =
-    let a = c .before .before .before .before .before .before .before .args in
+    let fit = c .before in
+    let head = fit .before in
+    let ok = head .before .before in
+    let front = ok .before in
+    let start = front .before .before in
+    let a = start .args in
     let added : Limit = record { from = a .x; to = a .y; weight = a .w } in
-    add-own (a .file .now) (c .before .before .before .before .before .front .result) (c .before .before .before .before .accepted .result) (c .before .before .before .before .accepted .ensures) (c .before .before .before .before .before .front .ensures) (c .before .before .before .if1 .left) (c .before .before .head .result) (c .before .before .head .ensures) added (c .before .limit-fits .result) (rw (toZ-ofZ w32 (a .w) (c .before .before .before .before .before .before .before .fits .w)) at (c .before .limit-fits .ensures)) (c .if2 .taken)
+    let weight = toZ-ofZ w32 (a .w) (start .fits .w) in
+    add-own (a .file .now) (ok .accepted .ensures) (front .front .ensures)
+    (head .before .if1 .left)
+    (head .head .ensures)
+    added
+    (rw weight at (fit .limit-fits .ensures))
+    (c .if2 .taken)
 
 links-requires : tie.Need-links-requires
 links-requires c κs = search needs
 
 returns-3 : tie.Need-returns-3
 returns-3 c =
-    let a = c .before .before .before .before .before .before .before .before .args in
+    let fit = c .before .before in
+    let head = fit .before in
+    let ok = head .before .before in
+    let front = ok .before in
+    let start = front .before .before in
+    let a = start .args in
     let added : Limit = record { from = a .x; to = a .y; weight = a .w } in
-    add-next (a .file .now) (c .before .before .before .before .before .before .front .result) (c .before .before .before .before .before .accepted .result) (c .before .before .before .before .before .accepted .ensures) (c .before .before .before .before .before .before .front .ensures) (c .before .before .before .before .if1 .left) (c .before .before .before .head .result) (c .before .before .before .head .ensures) added (c .before .before .limit-fits .result) (rw (toZ-ofZ w32 (a .w) (c .before .before .before .before .before .before .before .before .fits .w)) at (c .before .before .limit-fits .ensures)) (c .before .if2 .left) (c .links .result) (c .links .ensures)
+    let weight = toZ-ofZ w32 (a .w) (start .fits .w) in
+    add-next (a .file .now) (ok .accepted .ensures) (front .front .ensures)
+    (head .before .if1 .left)
+    (head .head .ensures)
+    added
+    (rw weight at (fit .limit-fits .ensures))
+    (c .before .if2 .left)
+    (c .links .ensures)
 
 pub sound-with-spec : {M : Type 1} → statement M
 sound-with-spec =

@@ -4,7 +4,6 @@ use mathlib.Core.Path.{_≡_, refl, sym, _∙_}
 use native.Mathlib.Omega.{arith}
 use borrow.Author.Needs.{needs}
 use Rattle.plan.specs.Layout.{linkAt, earlier}
-use Rattle.plan.specs.Values.{linkOf}
 use Rattle.plan.specs.File.{fresh}
 use Rattle.plan.proofs.Turns.{fresh-next, fresh-stop, fresh-end}
 use Rattle.plan.proofs.scan.fresh.Statement.{statement}
@@ -28,18 +27,20 @@ link-at-requires c κs = search needs
 
 returns : tie.Need-returns Inv-loop μ-loop
 returns c =
-    let a = c .before .before .before .before .before .before .args in
-    let j = c .before .before .before .before .loop .j in
-    sym (c .before .before .before .before .loop .inv ∙ fresh-stop (a .con) (linkAt (a .file .now) (a .m)) j (omega arith) (linkOf (c .before .before .link-at .result)) (c .before .before .link-at .ensures) (c .if1 .taken))
+    let read = c .before .before in
+    let turn = read .before .before in
+    let a = turn .before .before .args in
+    sym (turn .loop .inv ∙ fresh-stop (a .con) (linkAt (a .file .now) (a .m)) (turn .loop .j) (omega arith) (read .link-at .ensures) (c .if1 .taken))
 
 loop-less : tie.Need-loop-less Inv-loop μ-loop
 loop-less c = omega arith
 
 loop-again : tie.Need-loop-again Inv-loop μ-loop
 loop-again c =
-    let a = c .before .before .before .before .before .before .args in
-    let j = c .before .before .before .before .loop .j in
-    c .before .before .before .before .loop .inv ∙ fresh-next (a .con) (linkAt (a .file .now) (a .m)) j (omega arith) (linkOf (c .before .before .link-at .result)) (c .before .before .link-at .ensures) (c .if1 .left)
+    let read = c .before .before in
+    let turn = read .before .before in
+    let a = turn .before .before .args in
+    turn .loop .inv ∙ fresh-next (a .con) (linkAt (a .file .now) (a .m)) (turn .loop .j) (omega arith) (read .link-at .ensures) (c .if1 .left)
 
 returns-2 : tie.Need-returns-2 Inv-loop μ-loop
 returns-2 c =

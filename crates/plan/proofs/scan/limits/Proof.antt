@@ -7,7 +7,6 @@ use native.Mathlib.Omega.{arith}
 use borrow.Author.Needs.{needs}
 use Rattle.rules.specs.Plan.{version1}
 use Rattle.plan.specs.Layout.{limitAt, records}
-use Rattle.plan.specs.Values.{limitOf}
 use Rattle.plan.specs.File.{limitsAnswer}
 use Rattle.plan.proofs.Turns.{limits-next, limits-stop, limits-end}
 use Rattle.plan.proofs.scan.limits.Statement.{statement}
@@ -31,9 +30,13 @@ limit-fits-requires c κs = search needs
 
 returns : tie.Need-returns Inv-loop μ-loop
 returns c =
-    let a = c .before .before .before .before .before .before .args in
-    let i = c .before .before .before .before .loop .i in
-    sym (c .before .before .before .before .loop .inv .1 ∙ limits-stop version1 (a .n) (limitAt (a .file .now)) i (a .m) (omega arith) (limitOf (c .before .before .limit-at .result)) (c .before .limit-fits .result) (c .before .before .limit-at .ensures) (c .before .limit-fits .ensures) (c .if1 .taken))
+    let fit = c .before in
+    let read = fit .before in
+    let turn = read .before .before in
+    let a = turn .before .before .args in
+    sym
+    (turn .loop .inv .1
+    ∙ limits-stop version1 (a .n) (limitAt (a .file .now)) (turn .loop .i) (a .m) (omega arith) (read .limit-at .ensures) (fit .limit-fits .ensures) (c .if1 .taken))
 
 add-i : tie.Need-add-i Inv-loop μ-loop
 add-i c = omega arith
@@ -43,9 +46,14 @@ loop-less c = omega arith
 
 loop-again : tie.Need-loop-again Inv-loop μ-loop
 loop-again c =
-    let a = c .before .before .before .before .before .before .args in
-    let i = c .before .before .before .before .loop .i in
-    (omega arith, c .before .before .before .before .loop .inv .1 ∙ limits-next version1 (a .n) (limitAt (a .file .now)) i (a .m) (omega arith) (limitOf (c .before .before .limit-at .result)) (c .before .limit-fits .result) (c .before .before .limit-at .ensures) (c .before .limit-fits .ensures) (c .if1 .left))
+    let fit = c .before in
+    let read = fit .before in
+    let turn = read .before .before in
+    let a = turn .before .before .args in (
+      omega arith,
+      turn .loop .inv .1
+          ∙ limits-next version1 (a .n) (limitAt (a .file .now)) (turn .loop .i) (a .m) (omega arith) (read .limit-at .ensures) (fit .limit-fits .ensures) (c .if1 .left),
+    )
 
 returns-2 : tie.Need-returns-2 Inv-loop μ-loop
 returns-2 c =

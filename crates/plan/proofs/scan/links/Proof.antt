@@ -8,7 +8,6 @@ use native.Mathlib.Omega.{arith}
 use borrow.Author.Needs.{needs}
 use Rattle.rules.specs.Plan.{version1}
 use Rattle.plan.specs.Layout.{linkAt, records, earlier}
-use Rattle.plan.specs.Values.{linkOf}
 use Rattle.plan.specs.File.{linksAnswer}
 use Rattle.plan.proofs.Turns.{links-next, links-stop, links-repeat, links-end}
 use Rattle.plan.proofs.scan.links.Statement.{statement}
@@ -33,18 +32,25 @@ link-fits-requires c κs = search needs
 
 returns : tie.Need-returns Inv-loop μ-loop
 returns c =
-    let a = c .before .before .before .before .before .before .args in
-    let i = c .before .before .before .before .loop .i in
-    sym (c .before .before .before .before .loop .inv .1 ∙ links-stop version1 (a .n) (linkAt (a .file .now) (a .m)) i (a .k) (omega arith) (linkOf (c .before .before .link-at .result)) (c .before .link-fits .result) (c .before .before .link-at .ensures) (c .before .link-fits .ensures) (c .if1 .taken))
+    let fit = c .before in
+    let read = fit .before in
+    let turn = read .before .before in
+    let a = turn .before .before .args in
+    sym (turn .loop .inv .1 ∙ links-stop version1 (a .n) (linkAt (a .file .now) (a .m)) (turn .loop .i) (a .k) (omega arith) (read .link-at .ensures) (fit .link-fits .ensures) (c .if1 .taken))
 
 fresh-requires : tie.Need-fresh-requires Inv-loop μ-loop
 fresh-requires c κs = search needs
 
 returns-2 : tie.Need-returns-2 Inv-loop μ-loop
 returns-2 c =
-    let a = c .before .before .before .before .before .before .before .before .args in
-    let i = c .before .before .before .before .before .before .loop .i in
-    sym (c .before .before .before .before .before .before .loop .inv .1 ∙ links-repeat version1 (a .n) (linkAt (a .file .now) (a .m)) i (a .k) (omega arith) (linkOf (c .before .before .before .before .link-at .result)) (c .before .before .before .link-fits .result) (c .before .before .before .before .link-at .ensures) (c .before .before .before .link-fits .ensures) (c .before .before .if1 .left) (c .before .fresh .result) (c .before .fresh .ensures) (c .if2 .taken))
+    let new = c .before in
+    let fit = new .before .before in
+    let read = fit .before in
+    let turn = read .before .before in
+    let a = turn .before .before .args in
+    sym
+    (turn .loop .inv .1
+    ∙ links-repeat version1 (a .n) (linkAt (a .file .now) (a .m)) (turn .loop .i) (a .k) (omega arith) (read .link-at .ensures) (fit .link-fits .ensures) (new .before .if1 .left) (new .fresh .ensures) (c .if2 .taken))
 
 add-i : tie.Need-add-i Inv-loop μ-loop
 add-i c = omega arith
@@ -54,9 +60,15 @@ loop-less c = omega arith
 
 loop-again : tie.Need-loop-again Inv-loop μ-loop
 loop-again c =
-    let a = c .before .before .before .before .before .before .before .before .args in
-    let i = c .before .before .before .before .before .before .loop .i in
-    (omega arith, c .before .before .before .before .before .before .loop .inv .1 ∙ links-next version1 (a .n) (linkAt (a .file .now) (a .m)) i (a .k) (omega arith) (linkOf (c .before .before .before .before .link-at .result)) (c .before .before .before .link-fits .result) (c .before .before .before .before .link-at .ensures) (c .before .before .before .link-fits .ensures) (c .before .before .if1 .left) (c .before .fresh .result) (c .before .fresh .ensures) (c .if2 .left))
+    let new = c .before in
+    let fit = new .before .before in
+    let read = fit .before in
+    let turn = read .before .before in
+    let a = turn .before .before .args in (
+      omega arith,
+      turn .loop .inv .1
+          ∙ links-next version1 (a .n) (linkAt (a .file .now) (a .m)) (turn .loop .i) (a .k) (omega arith) (read .link-at .ensures) (fit .link-fits .ensures) (new .before .if1 .left) (new .fresh .ensures) (c .if2 .left),
+    )
 
 returns-3 : tie.Need-returns-3 Inv-loop μ-loop
 returns-3 c =
