@@ -51,11 +51,12 @@ agrees-says p (settled strict weak times) (still s w) e r =
     let b = both (eqList s strict) (eqList w weak) (a .0) in
     record {
       tables =
-        subst₂ (λ (t u : List ℤ). Tables p (tableOf version1 (p .points) t) (tableOf version1 (p .points) u)) (eqList-is s strict (b .0))
-        (eqList-is w weak (b .1)) r;
+          subst₂ (λ (t u : List ℤ). Tables p (tableOf version1 (p .points) t) (tableOf version1 (p .points) u)) (eqList-is s strict (b .0))
+          (eqList-is w weak (b .1)) r;
       early = λ x h.
-        eqCell-is (tableOf version1 (p .points) strict x zero) (num (negℤ (getD times x (pos zero))))
-        (every-true (λ x. eqCell (tableOf version1 (p .points) strict x zero) (num (negℤ (getD times x (pos zero))))) (length times) (a .1) x h) }
+          eqCell-is (tableOf version1 (p .points) strict x zero) (num (negℤ (getD times x (pos zero))))
+          (every-true (λ x. eqCell (tableOf version1 (p .points) strict x zero) (num (negℤ (getD times x (pos zero))))) (length times) (a .1) x h);
+    }
 
 -- the test of one case, and of a table
 abbrev passes : Case → Bool

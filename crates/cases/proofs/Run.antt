@@ -53,7 +53,8 @@ all-limits p =
       member = in-list (record { from = 0; to = 0; weight = pos 0 }) (p .limits);
       index = λ m h. place (p .limits) h;
       index-below = λ m h. place-below (p .limits) h;
-      index-is = λ m h. place-is (record { from = 0; to = 0; weight = pos 0 }) (p .limits) h }
+      index-is = λ m h. place-is (record { from = 0; to = 0; weight = pos 0 }) (p .limits) h;
+    }
 
 all-links : (p : Plan) → Pointed p → AllLinks p (linkIn (p .links)) (length (p .links))
 all-links p g =
@@ -63,10 +64,13 @@ all-links p g =
         member = member;
         points = record {
           act-below = λ i h. g .link-act (linkIn (p .links) i) (member i h);
-          con-below = λ i h. g .link-con (linkIn (p .links) i) (member i h) } };
+          con-below = λ i h. g .link-con (linkIn (p .links) i) (member i h);
+        };
+      };
       index = λ k h. place (p .links) h;
       index-below = λ k h. place-below (p .links) h;
-      index-is = λ k h. place-is (record { act = 0; con = 0; short = 0; long = 0 }) (p .links) h }
+      index-is = λ k h. place-is (record { act = 0; con = 0; short = 0; long = 0 }) (p .links) h;
+    }
 
 -- ---- the run
 
@@ -125,13 +129,13 @@ module _ (r : Ranges) (h : Coherent r) (p : Plan) (f : Fit r p) where
       next = going-on p r h (f .pointed) (linkIn (p .links)) (length (p .links)) links s w g
 
       by : (b : Bool) → fairTest r (p .points) s′ && fairTest r (p .points) w′ ≡ b → (c : Bool) → eqList s′ s && eqList w′ w ≡ c
-        → Right r p (sweeps r p fuel s′ w′) → Right r p (cond b (cond c (still s w) (sweeps r p fuel s′ w′)) unfair)
+          → Right r p (sweeps r p fuel s′ w′) → Right r p (cond b (cond c (still s w) (sweeps r p fuel s′ w′)) unfair)
       by false e c k again =
           ⊎-elim
           (λ q. unfair-strict p r h (f .pointed) (f .weighted) (f .few) (linkIn (p .links)) (length (p .links)) links s′ w′ next
-            (fair-false r (p .points) s′ q))
+          (fair-false r (p .points) s′ q))
           (λ q. unfair-open p r h (f .pointed) (f .weighted) (f .few) (linkIn (p .links)) (length (p .links)) links s′ w′ next
-            (fair-false r (p .points) w′ q))
+          (fair-false r (p .points) w′ q))
           (either (fairTest r (p .points) s′) (fairTest r (p .points) w′) e)
       by true e false k again = again
       by true e true k again =

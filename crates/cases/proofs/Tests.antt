@@ -124,9 +124,10 @@ fair-true r n t s e =
     let p = both (every rows n) (every diagonal n) e in
     record {
       within = λ x y hx hy.
-        at-least-within (r .reach) (tableOf r n t x y) (s .stored x y hx hy)
-        (every-true (λ y. atLeast (negℤ (pos (r .reach))) (tableOf r n t x y)) n (every-true rows n (p .0) x hx) y hy);
-      diagonal = λ x hx. at-least-le (tableOf r n t x x) (every-true diagonal n (p .1) x hx) }
+          at-least-within (r .reach) (tableOf r n t x y) (s .stored x y hx hy)
+          (every-true (λ y. atLeast (negℤ (pos (r .reach))) (tableOf r n t x y)) n (every-true rows n (p .0) x hx) y hy);
+      diagonal = λ x hx. at-least-le (tableOf r n t x x) (every-true diagonal n (p .1) x hx);
+    }
 
 -- a cell that is not at least a number is a number below it
 below-is : (b : ℤ) (c : Cell) → atLeast b c ≡ false → (z : ℤ) × (c ≡ num z) × (z <ℤ b)
@@ -202,9 +203,12 @@ range-fit r p e =
         limit-from = λ m h. ms m h .from;
         limit-to = λ m h. ms m h .to;
         link-act = λ k h. ks k h .act;
-        link-con = λ k h. ks k h .con };
+        link-con = λ k h. ks k h .con;
+      };
       weighted = record {
         limit-least = λ m h. ms m h .least;
         limit-most = λ m h. ms m h .most;
         short-most = λ k h. omega (arith, ks k h .order, ks k h .most);
-        long-most = λ k h. ks k h .most } }
+        long-most = λ k h. ks k h .most;
+      };
+    }

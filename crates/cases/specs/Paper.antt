@@ -39,15 +39,15 @@ paper =
     say (plan 1 [] []) (settled (pos 0 ∷ []) (pos 0 ∷ []) [])
     -- b
     ∷ say (plan 2 [] (limit 0 1 (pos 10) ∷ []))
-      (settled (pos 0 ∷ pos 10 ∷ pos 0 ∷ pos 0 ∷ []) (pos 0 ∷ pos 10 ∷ pos 0 ∷ pos 0 ∷ []) (pos 0 ∷ pos 0 ∷ []))
+    (settled (pos 0 ∷ pos 10 ∷ pos 0 ∷ pos 0 ∷ []) (pos 0 ∷ pos 10 ∷ pos 0 ∷ pos 0 ∷ []) (pos 0 ∷ pos 0 ∷ []))
     -- c
     ∷ say (plan 2 [] (limit 0 1 (pos 10) ∷ limit 1 0 (minus 10) ∷ []))
-      (settled (pos 0 ∷ pos 10 ∷ minus 10 ∷ pos 0 ∷ []) (pos 0 ∷ pos 10 ∷ minus 10 ∷ pos 0 ∷ []) [])
+    (settled (pos 0 ∷ pos 10 ∷ minus 10 ∷ pos 0 ∷ []) (pos 0 ∷ pos 10 ∷ minus 10 ∷ pos 0 ∷ []) [])
     ∷ say (plan 2 [] (limit 0 1 (pos 10) ∷ limit 1 0 (minus 11) ∷ [])) refused
     -- d
     ∷ say (plan 3 [] (limit 0 2 (pos 12) ∷ limit 1 0 (minus 4) ∷ limit 1 2 (pos 6) ∷ limit 2 1 (minus 3) ∷ []))
-      (settled (pos 0 ∷ pos 9 ∷ pos 12 ∷ minus 4 ∷ pos 0 ∷ pos 6 ∷ minus 7 ∷ minus 3 ∷ pos 0 ∷ [])
-        (pos 0 ∷ pos 9 ∷ pos 12 ∷ minus 4 ∷ pos 0 ∷ pos 6 ∷ minus 7 ∷ minus 3 ∷ pos 0 ∷ []) (pos 0 ∷ pos 4 ∷ pos 7 ∷ []))
+    (settled (pos 0 ∷ pos 9 ∷ pos 12 ∷ minus 4 ∷ pos 0 ∷ pos 6 ∷ minus 7 ∷ minus 3 ∷ pos 0 ∷ [])
+    (pos 0 ∷ pos 9 ∷ pos 12 ∷ minus 4 ∷ pos 0 ∷ pos 6 ∷ minus 7 ∷ minus 3 ∷ pos 0 ∷ []) (pos 0 ∷ pos 4 ∷ pos 7 ∷ []))
     -- e
     ∷ say planE (settled strictE (pos 0 ∷ pos 2 ∷ minus 2 ∷ pos 0 ∷ []) [])
     -- f, as Add's plans
@@ -56,12 +56,12 @@ paper =
     ∷ say (withCells planE (tableOf version1 2 strictE) (limit 1 0 (minus 3))) refused
     -- g
     ∷ say (plan 3 (link 0 2 5 1 ∷ []) (limit 2 1 (pos 0) ∷ limit 1 2 (pos 1) ∷ []))
-      (settled (pos 0 ∷ pos 5 ∷ pos 6 ∷ minus 2 ∷ pos 0 ∷ pos 1 ∷ minus 2 ∷ pos 0 ∷ pos 0 ∷ [])
-        (pos 0 ∷ pos 2 ∷ pos 3 ∷ minus 2 ∷ pos 0 ∷ pos 1 ∷ minus 2 ∷ pos 0 ∷ pos 0 ∷ []) [])
+    (settled (pos 0 ∷ pos 5 ∷ pos 6 ∷ minus 2 ∷ pos 0 ∷ pos 1 ∷ minus 2 ∷ pos 0 ∷ pos 0 ∷ [])
+    (pos 0 ∷ pos 2 ∷ pos 3 ∷ minus 2 ∷ pos 0 ∷ pos 1 ∷ minus 2 ∷ pos 0 ∷ pos 0 ∷ []) [])
     -- h
     ∷ say (plan 3 (link 0 2 5 1 ∷ []) (limit 1 2 (minus 1) ∷ limit 2 1 (pos 4) ∷ []))
-      (settled (pos 0 ∷ pos 5 ∷ pos 4 ∷ minus 2 ∷ pos 0 ∷ minus 1 ∷ minus 1 ∷ pos 4 ∷ pos 0 ∷ [])
-        (pos 0 ∷ pos 2 ∷ pos 1 ∷ minus 2 ∷ pos 0 ∷ minus 1 ∷ minus 1 ∷ pos 1 ∷ pos 0 ∷ []) [])
+    (settled (pos 0 ∷ pos 5 ∷ pos 4 ∷ minus 2 ∷ pos 0 ∷ minus 1 ∷ minus 1 ∷ pos 4 ∷ pos 0 ∷ [])
+    (pos 0 ∷ pos 2 ∷ pos 1 ∷ minus 2 ∷ pos 0 ∷ minus 1 ∷ minus 1 ∷ pos 1 ∷ pos 0 ∷ []) [])
     -- i
     ∷ say (plan 3 (link 0 2 5 1 ∷ []) (limit 1 2 (minus 1) ∷ limit 2 1 (pos 3) ∷ [])) refused
     -- j

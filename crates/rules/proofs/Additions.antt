@@ -34,6 +34,13 @@ taken-in-range {r} {p} (taken {m = l} a h t) m k =
     ⊎-elim (λ e. subst (λ (x : Limit). LimitInRange r (p .points) x) (sym e) h) (λ i. taken-in-range a m i) (List·Memᴰ·cases-cons k)
 taken-in-range (refused a h u) m k = taken-in-range a m k
 
+pub refused-in-range : {r : Ranges} {p : Plan} {ts rs : List Limit} {strict weak : Table} → Additions r p ts rs strict weak
+    → AllInRange r (p .points) rs
+refused-in-range (opened t) m h = absurd (List·Memᴰ·not-nil h)
+refused-in-range (taken a h t) m k = refused-in-range a m k
+refused-in-range {r} {p} (refused {m = l} a h u) m k =
+    ⊎-elim (λ e. subst (λ (x : Limit). LimitInRange r (p .points) x) (sym e) h) (λ i. refused-in-range a m i) (List·Memᴰ·cases-cons k)
+
 -- a plan in range with limits in range more names points below n
 pub more-pointed : (r : Ranges) (p : Plan) (ms : List Limit) → InRange r p → AllInRange r (p .points) ms → Pointed (withLimits p ms)
 more-pointed r p ms g a =

@@ -25,7 +25,7 @@ use Rattle.rules.proofs.Lists.{same-parts, filled-once, kept-once}
 
 -- ---- what excludes what
 
-short-or-room {ℓ} : {X : Type ℓ} {p : Plan} {strict weak : List ℤ} → ShortTables p strict weak → RoomForTables p strict weak → X
+pub short-or-room {ℓ} : {X : Type ℓ} {p : Plan} {strict weak : List ℤ} → ShortTables p strict weak → RoomForTables p strict weak → X
 short-or-room {strict} {weak} s r = ⊎-elim (λ h. absurd (omega (arith, r .strict-room))) (λ h. absurd (omega (arith, r .open-room))) s
 
 -- the plan's tables are written in one way

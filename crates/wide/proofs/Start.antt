@@ -60,7 +60,6 @@ few-points = omega arith
 
 module _ (p : Plan) (g : InRange version1 p) (strict weak : Table) (c : Closed version1 p strict weak) (m : Limit)
     (i : LimitInRange version1 (p .points) m) where
-
   -- it names points below n
   pub added-pointed : Pointed (withCells p strict m)
   added-pointed = cells-pointed p strict m (in-range-pointed g) (i .from) (i .to)
@@ -79,7 +78,7 @@ module _ (p : Plan) (g : InRange version1 p) (strict weak : Table) (c : Closed v
   new-limit l e = rw e (in-wide weights-held (i .least), omega (ints, i .most, weights-held))
 
   limit-weight : (l : Limit) → List·Memᴰ l (withCells p strict m .limits)
-    → (negℤ (pos (adding .weight)) ≤ℤ l .weight) × (l .weight ≤ℤ pos (adding .weight))
+      → (negℤ (pos (adding .weight)) ≤ℤ l .weight) × (l .weight ≤ℤ pos (adding .weight))
   limit-weight l h =
       ⊎-elim (new-limit l) (λ k. from-cell l (table-limit strict (p .points) (p .points) k)) (List·Memᴰ·cases-cons h)
 
@@ -90,7 +89,8 @@ module _ (p : Plan) (g : InRange version1 p) (strict weak : Table) (c : Closed v
         limit-least = λ l h. limit-weight l h .0;
         limit-most = λ l h. limit-weight l h .1;
         short-most = λ k h. omega (arith, in-range-weighted g .short-most k h, weights-held);
-        long-most = λ k h. omega (arith, in-range-weighted g .long-most k h, weights-held) }
+        long-most = λ k h. omega (arith, in-range-weighted g .long-most k h, weights-held);
+      }
 
   -- a strict cell has its walk in Add's plan: it is a limit, or the empty walk
   cell-has : (x y : ℕ) → x < p .points → y < p .points → (d : Cell) → strict x y ≡ d → Has (Derivable (withCells p strict m)) x y d
@@ -113,9 +113,11 @@ module _ (p : Plan) (g : InRange version1 p) (strict weak : Table) (c : Closed v
         record {
           sound = record {
             room = room;
-            stored = λ x y hx hy. subst (Stored (adding .reach)) (sym (same x y hx hy)) (within-wide (strict x y) (c .strict-within x y hx hy)) };
+            stored = λ x y hx hy. subst (Stored (adding .reach)) (sym (same x y hx hy)) (within-wide (strict x y) (c .strict-within x y hx hy));
+          };
           has = λ x y hx hy.
-            subst (Has (Derivable (withCells p strict m)) x y) (sym (same x y hx hy)) (cell-has x y hx hy (strict x y) refl) }
+              subst (Has (Derivable (withCells p strict m)) x y) (sym (same x y hx hy)) (cell-has x y hx hy (strict x y) refl);
+        }
 
     -- and with the new limit
     pub start-walked : Walked (Derivable (withCells p strict m)) adding (p .points) (limitCell adding (p .points) m u)
@@ -135,7 +137,7 @@ module _ (p : Plan) (g : InRange version1 p) (strict weak : Table) (c : Closed v
         subst (λ (d : Cell). tableOf adding (p .points) (limitCell adding (p .points) m u) x y ≤ᶜ d) (same x y hx hy) (start-lowered .down x y hx hy)
 
     under-number : (x y : ℕ) (w : ℤ) → x < p .points → y < p .points → strict x y ≤ᶜ num w
-      → tableOf adding (p .points) (limitCell adding (p .points) m u) x y ≤ᶜ num w
+        → tableOf adding (p .points) (limitCell adding (p .points) m u) x y ≤ᶜ num w
     under-number x y w hx hy h =
         ≤ᶜ-trans (tableOf adding (p .points) (limitCell adding (p .points) m u) x y) (strict x y) (num w) (under-cell x y hx hy) h
 
@@ -146,18 +148,18 @@ module _ (p : Plan) (g : InRange version1 p) (strict weak : Table) (c : Closed v
         (in-wide (adding-coherent .holds-weight) (new-limit m refl .0)) (omega (ints, new-limit m refl .1, adding-coherent .holds-weight))
 
     limit-below : (l : Limit) → List·Memᴰ l (withCells p strict m .limits)
-      → tableOf adding (p .points) (limitCell adding (p .points) m u) (l .from) (l .to) ≤ᶜ num (l .weight)
+        → tableOf adding (p .points) (limitCell adding (p .points) m u) (l .from) (l .to) ≤ᶜ num (l .weight)
     limit-below l h =
         ⊎-elim
         (λ e. subst (λ (k : Limit). tableOf adding (p .points) (limitCell adding (p .points) m u) (k .from) (k .to) ≤ᶜ num (k .weight)) (sym e) new-below)
         (λ k.
-          let f : FromCell strict (p .points) (p .points) l = table-limit strict (p .points) (p .points) k in
-          under-number (l .from) (l .to) (l .weight) (f .row-below) (f .column-below)
-          (subst (λ (d : Cell). strict (l .from) (l .to) ≤ᶜ d) (f .cell) (≤ᶜ-refl (strict (l .from) (l .to)))))
+        let f : FromCell strict (p .points) (p .points) l = table-limit strict (p .points) (p .points) k in
+        under-number (l .from) (l .to) (l .weight) (f .row-below) (f .column-below)
+        (subst (λ (d : Cell). strict (l .from) (l .to) ≤ᶜ d) (f .cell) (≤ᶜ-refl (strict (l .from) (l .to)))))
         (List·Memᴰ·cases-cons h)
 
     pub start-below : (x y : ℕ) (w : ℤ) → Given (withCells p strict m) x y w
-      → tableOf adding (p .points) (limitCell adding (p .points) m u) x y ≤ᶜ num w
+        → tableOf adding (p .points) (limitCell adding (p .points) m u) x y ≤ᶜ num w
     start-below x y w (edges.limit {m = l} h) = limit-below l h
     start-below x y w (edges.start h) =
         under-number x zero (pos zero) h (in-range-pointed g .some-point) (c .given x zero (pos zero) (edges.start h))
@@ -170,20 +172,21 @@ module _ (p : Plan) (g : InRange version1 p) (strict weak : Table) (c : Closed v
 
     -- Add's sweeps start
     pub start-going : (v : List ℤ) → p .points * p .points ≤ length v
-      → Going (withCells p strict m) adding (limitCell adding (p .points) m u) (firstOpen adding (p .points) v)
+        → Going (withCells p strict m) adding (limitCell adding (p .points) m u) (firstOpen adding (p .points) v)
     unfolding firstOpen
     start-going v vr =
         let marked : Walked (Open (withCells p strict m)) adding (p .points) (markAll adding (p .points * p .points) v) =
-          marks-walked (Open (withCells p strict m)) adding (p .points) v vr in
+        marks-walked (Open (withCells p strict m)) adding (p .points) v vr in
         record {
           strict-walks = start-walked;
           open-walks =
-            diagonal-walked (withCells p strict m) adding adding-coherent added-pointed added-weighted (Open (withCells p strict m))
-            (markAll adding (p .points * p .points) v) marked;
+              diagonal-walked (withCells p strict m) adding adding-coherent added-pointed added-weighted (Open (withCells p strict m))
+              (markAll adding (p .points * p .points) v) marked;
           given-below = start-below;
           strict-diagonal = λ x hx.
-            under-number x x (pos zero) hx hx
-            (subst (λ (d : Cell). d ≤ᶜ num (pos zero)) (sym (c .strict-diagonal x hx)) (≤ℤ-refl (pos zero)));
+              under-number x x (pos zero) hx hx
+              (subst (λ (d : Cell). d ≤ᶜ num (pos zero)) (sym (c .strict-diagonal x hx)) (≤ℤ-refl (pos zero)));
           open-diagonal =
-            diagonal-below (withCells p strict m) adding adding-coherent added-pointed added-weighted
-            (markAll adding (p .points * p .points) v) (marked .sound) }
+              diagonal-below (withCells p strict m) adding adding-coherent added-pointed added-weighted
+              (markAll adding (p .points * p .points) v) (marked .sound);
+        }

@@ -1,0 +1,97 @@
+-- A file's own answer has a code of at most 8, with or without Add's limit; and only codes 6, 7 and 8 have a place. Assumes nothing.
+use mathlib.Core.Path.{_≡_, refl}
+use mathlib.Core.Bool.{Bool, true, false, cond}
+use mathlib.Core.Logic.{_⊎_, inl, inr}
+use mathlib.Core.List.{List, [], _∷_}
+use Prim.Native.Nat.{ℕ, zero, suc, _≤_}
+use native.Mathlib.Omega.{arith}
+use lib.Dec.{leb, eqb}
+use lib.ListN.{length}
+use Rattle.rules.specs.declared.Answer.{Answer}
+use Rattle.rules.specs.declared.Answer.the-variants.{Done, FewBytes, BadVersion, BadPoints, BadCounts, BadLayout, BadLimit, BadLink, RepeatedLink, ShortRoom, HasLinks, NotControllable, NotClosed}
+use Rattle.rules.specs.Plan.{Limit, Link, Ranges, version1}
+use Rattle.rules.specs.Answers.{codeOf, placeOf}
+use Rattle.answers.specs.Order.{_then_, unless}
+use Rattle.plan.specs.declared.Header.{Header}
+use Rattle.plan.specs.Layout.{headOf, planOf}
+use Rattle.plan.specs.File.{pointsFit, countsFit, laidOut, headAnswer, limitFits, linkFits, fresh, limitPlace, linkPlace, limitAnswer, limitsAnswer, linkAnswer, linksAnswer, frontAnswer, fileAnswer, addAnswer}
+use Rattle.demands.specs.Demand1.{PlaceNamed}
+
+pub place-named : (a : Answer) → PlaceNamed a
+place-named Done = inl refl
+place-named FewBytes = inl refl
+place-named BadVersion = inl refl
+place-named BadPoints = inl refl
+place-named BadCounts = inl refl
+place-named BadLayout = inl refl
+place-named (BadLimit i) = inr (omega arith)
+place-named (BadLink i) = inr (omega arith)
+place-named (RepeatedLink i) = inr (omega arith)
+place-named ShortRoom = inl refl
+place-named HasLinks = inl refl
+place-named NotControllable = inl refl
+place-named NotClosed = inl refl
+
+-- an answer with a code of a file
+abbrev pub FileCode : Answer → Type 0
+FileCode a = codeOf a ≤ 8
+
+then-code : (a b : Answer) → FileCode a → FileCode b → FileCode (a then b)
+then-code a b h k = by (eqb (codeOf a) 0)
+  where
+    by : (t : Bool) → FileCode (cond t b a)
+    by true = k
+    by false = h
+
+unless-code : (t : Bool) (a : Answer) → FileCode a → FileCode (unless t a)
+unless-code true a h = omega arith
+unless-code false a h = h
+
+head-code : (size : ℕ) (h : Header) → FileCode (headAnswer size h)
+unfolding headAnswer
+head-code size h =
+    let two = unless (eqb (h .version) 1) BadVersion in
+    let three = unless (pointsFit version1 (h .points)) BadPoints in
+    let four = unless (countsFit version1 (h .limits) (h .links)) BadCounts in
+    let five = unless (laidOut size h) BadLayout in
+    then-code (unless (leb 24 size) FewBytes) (two then three then four then five) (unless-code (leb 24 size) FewBytes (omega arith))
+    (then-code two (three then four then five) (unless-code (eqb (h .version) 1) BadVersion (omega arith))
+    (then-code three (four then five) (unless-code (pointsFit version1 (h .points)) BadPoints (omega arith))
+    (then-code four five (unless-code (countsFit version1 (h .limits) (h .links)) BadCounts (omega arith))
+    (unless-code (laidOut size h) BadLayout (omega arith)))))
+
+limit-code : (r : Ranges) (n i : ℕ) (m : Limit) → FileCode (limitAnswer r n i m)
+limit-code r n i m = unless-code (limitFits r n m) (BadLimit (limitPlace i)) (omega arith)
+
+limits-code : (r : Ranges) (n i : ℕ) (ms : List Limit) → FileCode (limitsAnswer r n i ms)
+limits-code r n i [] = omega arith
+limits-code r n i (m ∷ ms) = then-code (limitAnswer r n i m) (limitsAnswer r n (suc i) ms) (limit-code r n i m) (limits-code r n (suc i) ms)
+
+links-code : (r : Ranges) (n i : ℕ) (before ks : List Link) → FileCode (linksAnswer r n i before ks)
+links-code r n i before [] = omega arith
+links-code r n i before (k ∷ ks) =
+    then-code (linkAnswer r n i before k) (linksAnswer r n (suc i) (k ∷ before) ks)
+    (then-code (unless (linkFits r n k) (BadLink (linkPlace i))) (unless (fresh (k .con) before) (RepeatedLink (linkPlace i)))
+    (unless-code (linkFits r n k) (BadLink (linkPlace i)) (omega arith))
+    (unless-code (fresh (k .con) before) (RepeatedLink (linkPlace i)) (omega arith)))
+    (links-code r n (suc i) (k ∷ before) ks)
+
+front-code : (s : List ℕ) → FileCode (frontAnswer s)
+unfolding frontAnswer
+front-code s =
+    then-code (headAnswer (length s) (headOf s)) (limitsAnswer version1 (planOf s .points) 0 (planOf s .limits)) (head-code (length s) (headOf s))
+    (limits-code version1 (planOf s .points) 0 (planOf s .limits))
+
+pub file-code : (s : List ℕ) → FileCode (fileAnswer s)
+unfolding fileAnswer
+file-code s =
+    then-code (frontAnswer s) (linksAnswer version1 (planOf s .points) 0 [] (planOf s .links)) (front-code s)
+    (links-code version1 (planOf s .points) 0 [] (planOf s .links))
+
+pub add-code : (s : List ℕ) (m : Limit) → FileCode (addAnswer s m)
+unfolding addAnswer
+add-code s m =
+    let own = limitAnswer version1 (planOf s .points) (headOf s .limits) m in
+    let links = linksAnswer version1 (planOf s .points) 0 [] (planOf s .links) in
+    then-code (frontAnswer s) (own then links) (front-code s)
+    (then-code own links (limit-code version1 (planOf s .points) (headOf s .limits) m) (links-code version1 (planOf s .points) 0 [] (planOf s .links)))

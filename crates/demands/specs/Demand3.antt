@@ -1,0 +1,62 @@
+-- The third demand: limits added one by one, in any order, repeats allowed, end in the tables that Judge gives one file with all of them, or meet a
+-- refusal that changes nothing and stays. Assumes nothing.
+use mathlib.Core.Path.{_≡_}
+use mathlib.Core.Logic.{_≢_, _⊎_}
+use mathlib.Core.List.{List, [], _∷_, _++_, List·Memᴰ}
+use Prim.Native.Nat.{ℕ, zero, _<_}
+use lib.ListN.{getD}
+use lib.IntN.{ℤ, pos}
+use Rattle.rules.specs.declared.Answer.{Answer}
+use Rattle.rules.specs.declared.Answer.the-variants.{Done, ShortRoom, NotControllable, NotClosed}
+use Rattle.rules.specs.Plan.{Limit, LimitInRange, version1}
+use Rattle.rules.specs.Walks.{Uncontrollable}
+use Rattle.rules.specs.Additions.{withLimits}
+use Rattle.rules.specs.Calls.{cellsOf, RoomForTables, Judged, Added}
+use Rattle.rules.specs.Demands.{AllIn}
+use Rattle.plan.specs.Layout.{planOf}
+use Rattle.plan.specs.File.{fileAnswer, addAnswer}
+
+-- A desk's work on one file: Judge, then additions one after the other, "every call lent the same file, .. nothing else writing the tables". The limits taken and
+-- those refused so far, the last first, and the two tables now. A call of Add that gives another code (a limit out of range, a short slice) tries nothing.
+pub data Desk (s : List ℕ) : List Limit → List Limit → List ℤ → List ℤ → Type 0 where
+  judged : {strict weak strict′ weak′ : List ℤ} → Judged version1 (fileAnswer s) (planOf s) strict weak Done strict′ weak′ → Desk s [] [] strict′ weak′
+  taken : {ts rs : List Limit} {strict weak scratch strict′ weak′ scratch′ : List ℤ} {m : Limit} → Desk s ts rs strict weak
+      → Added version1 (addAnswer s m) (planOf s) m strict weak scratch Done strict′ weak′ scratch′ → Desk s (m ∷ ts) rs strict′ weak′
+  refused : {ts rs : List Limit} {strict weak scratch strict′ weak′ scratch′ : List ℤ} {m : Limit} → Desk s ts rs strict weak
+      → Added version1 (addAnswer s m) (planOf s) m strict weak scratch NotControllable strict′ weak′ scratch′ → Desk s ts (m ∷ rs) strict′ weak′
+  nothing : {ts rs : List Limit} {strict weak scratch strict′ weak′ scratch′ : List ℤ} {m : Limit} {a : Answer} → Desk s ts rs strict weak
+      → Added version1 (addAnswer s m) (planOf s) m strict weak scratch a strict′ weak′ scratch′ → a ≢ Done → a ≢ NotControllable
+      → Desk s ts rs strict′ weak′
+
+-- "one file with all of them": a sound file with the same points and links, whose limits are the first file's and these
+pub record OneFile (s : List ℕ) (all : List Limit) (one : List ℕ) : Type 0 where
+  pub sound : fileAnswer one ≡ Done
+  pub points : planOf one .points ≡ planOf s .points
+  pub links : planOf one .links ≡ planOf s .links
+  pub none-more : AllIn (planOf one .limits) (all ++ planOf s .limits)
+  pub none-less : AllIn (all ++ planOf s .limits) (planOf one .limits)
+
+pub record Demand3 : Type 0 where
+  -- if the plan with all of them is controllable, each addition of one of them is taken
+  pub each-taken : (s : List ℕ) (ts rs all : List Limit) (strict weak scratch : List ℤ) → Desk s ts rs strict weak → AllIn ts all
+      → (Uncontrollable (withLimits (planOf s) all) → ⊥) → (m : Limit) → List·Memᴰ m all → LimitInRange version1 (planOf s .points) m
+      → (a : Answer) (strict′ weak′ scratch′ : List ℤ) → Added version1 (addAnswer s m) (planOf s) m strict weak scratch a strict′ weak′ scratch′
+      → a ≢ ShortRoom → a ≡ Done
+  -- and the end tables are, cell for cell, those that Judge gives one file with all of them
+  pub end-tables : (s : List ℕ) (ts rs all : List Limit) (strict weak : List ℤ) → Desk s ts rs strict weak → AllIn ts all → AllIn all ts
+      → (one : List ℕ) → OneFile s all one → (strict₀ weak₀ strict′ weak′ : List ℤ) (a : Answer) → RoomForTables (planOf one) strict₀ weak₀
+      → Judged version1 (fileAnswer one) (planOf one) strict₀ weak₀ a strict′ weak′
+      → (a ≡ Done) × ((i : ℕ) → i < cellsOf (planOf s) → (getD strict i (pos zero) ≡ getD strict′ i (pos zero)) × (getD weak i (pos zero) ≡ getD weak′ i (pos zero)))
+  -- if it is not, every order that tries them all meets an 11
+  pub some-refused : (s : List ℕ) (ts rs all : List Limit) (strict weak : List ℤ) → Desk s ts rs strict weak
+      → ((m : Limit) → List·Memᴰ m all → List·Memᴰ m ts ⊎ List·Memᴰ m rs) → Uncontrollable (withLimits (planOf s) all) → rs ≢ []
+  -- a refusal changes no cell
+  pub refusal-changes-nothing : (s : List ℕ) (m : Limit) (strict weak scratch strict′ weak′ scratch′ : List ℤ)
+      → Added version1 (addAnswer s m) (planOf s) m strict weak scratch NotControllable strict′ weak′ scratch′ → (strict′ ≡ strict) × (weak′ ≡ weak)
+  -- the same limit tried again at any later time is refused again
+  pub refused-again : (s : List ℕ) (ts rs : List Limit) (strict weak scratch : List ℤ) → Desk s ts rs strict weak → (m : Limit) → List·Memᴰ m rs
+      → (a : Answer) (strict′ weak′ scratch′ : List ℤ) → Added version1 (addAnswer s m) (planOf s) m strict weak scratch a strict′ weak′ scratch′
+      → a ≢ ShortRoom → a ≡ NotControllable
+  -- "The second sort of 12 never happens on tables that came from Judge and Add with the same file", nor does the first
+  pub never-twelve : (s : List ℕ) (ts rs : List Limit) (strict weak scratch : List ℤ) → Desk s ts rs strict weak → (m : Limit) (a : Answer)
+      (strict′ weak′ scratch′ : List ℤ) → Added version1 (addAnswer s m) (planOf s) m strict weak scratch a strict′ weak′ scratch′ → a ≢ NotClosed

@@ -1,0 +1,4 @@
+-- The three demands, each a type that is proved by one name.
+pub mod Demand1
+pub mod Demand2
+pub mod Demand3
