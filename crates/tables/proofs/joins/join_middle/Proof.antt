@@ -7,8 +7,8 @@ use Rattle.rules.proofs.Demands.{version1-coherent}
 use Rattle.tables.specs.Sweep.{joinRow, joinMiddle}
 use Rattle.tables.proofs.Turns.{Turns, turns-none, turns-more, turns-all}
 use Rattle.tables.proofs.Steps.{row-lowers}
-use Rattle.tables.proofs.join_middle.Statement.{statement}
-use Rattle.tables.proofs.join_middle.Tie as tie
+use Rattle.tables.proofs.joins.join_middle.Statement.{statement}
+use Rattle.tables.proofs.joins.join_middle.Tie as tie
 
 abbrev Inv-loop : tie.InvT-loop
 Inv-loop t₀ n y x₀ t x = Turns version1 n n (joinRow version1 n y) x t₀ t

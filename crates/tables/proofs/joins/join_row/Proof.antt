@@ -10,10 +10,10 @@ use Rattle.tables.proofs.Steps.{cell-lowers}
 use Rattle.cell.proofs.Laws.{is-mark}
 use Rattle.rules.specs.Cells.{Cell}
 use mathlib.Core.Path.{sym, _∙_}
-use Rattle.tables.proofs.join_row.Statement.{statement}
-use Rattle.tables.proofs.join_row.Tie as tie
-use Rattle.tables.proofs.join_row.Reads as reads
-use Rattle.tables.proofs.join_row.Lts as lts
+use Rattle.tables.proofs.joins.join_row.Statement.{statement}
+use Rattle.tables.proofs.joins.join_row.Tie as tie
+use Rattle.tables.proofs.joins.join_row.Reads as reads
+use Rattle.tables.proofs.joins.join_row.Lts as lts
 use Rattle.cell.proofs.Cell32.add.Reads as add-reads
 use Rattle.cell.proofs.Cell32.is_mark.Reads as is-mark-reads
 use Rattle.tables.proofs.get.Reads as get-reads
@@ -25,19 +25,19 @@ Inv-loop t₀ n y x a z₀ t z = Turns version1 n n (joinCell version1 n y x (ce
 abbrev μ-loop : tie.MeasureT-loop
 μ-loop t₀ n y x a z₀ t z = n - z
 
--- src/lib.rt:45:9
+-- src/joins.rt:45:9
 get-requires : tie.Need-get-requires Inv-loop μ-loop
 get-requires c κs = search needs
 
--- src/lib.rt:46:8
+-- src/joins.rt:46:8
 is-mark-requires : tie.Need-is-mark-requires Inv-loop μ-loop
 is-mark-requires c κs = search needs
 
--- src/lib.rt:47:9
+-- src/joins.rt:47:9
 same-length : tie.Need-same-length Inv-loop μ-loop
 same-length c = search needs
 
--- src/lib.rt:47:9
+-- src/joins.rt:47:9
 returns : tie.Need-returns Inv-loop μ-loop
 returns c =
     let s = c .before .before .before .before in
@@ -47,18 +47,18 @@ returns c =
     (row-at-mark version1 (s .args .n) (s .args .y) (s .args .x) (s .args .t .now)
     (sym (read-cell version1 (s .args .n) (s .args .x) (s .args .y) (s .args .t .now) (get .result .v) (get .ensures)) ∙ cell))
 
--- src/lib.rt:50:5
+-- src/joins.rt:50:5
 loop-holds : tie.Need-loop-holds Inv-loop μ-loop
 loop-holds c =
     let s = c .before .before .before .before in
     turns-none version1 (s .args .n) (s .args .n)
     (joinCell version1 (s .args .n) (s .args .y) (s .args .x) (cell32 (c .before .before .get .result .v))) (s .args .t .now) (s .pre .3)
 
--- src/lib.rt:51:13
+-- src/joins.rt:51:13
 get-requires-2 : tie.Need-get-requires-2 Inv-loop μ-loop
 get-requires-2 c κs = search needs
 
--- src/lib.rt:52:32
+-- src/joins.rt:52:32
 add-requires : tie.Need-add-requires Inv-loop μ-loop
 add-requires c κs =
     let s = c .before .before .before .before .before .before .before .before .before in
@@ -69,19 +69,19 @@ add-requires c κs =
       read-stored version1 (s .args .n) (s .args .y) (loop .z) (loop .t) (get2 .result .v) (loop .inv .lowered .sound) (s .pre .1) (omega arith) (get2 .ensures),
     )
 
--- src/lib.rt:52:9
+-- src/joins.rt:52:9
 lower-cell-requires : tie.Need-lower-cell-requires Inv-loop μ-loop
 lower-cell-requires c κs = search needs
 
--- src/lib.rt:53:9
+-- src/joins.rt:53:9
 add-z : tie.Need-add-z Inv-loop μ-loop
 add-z c = search needs
 
--- src/lib.rt:50:5
+-- src/joins.rt:50:5
 loop-less : tie.Need-loop-less Inv-loop μ-loop
 loop-less c = search needs
 
--- src/lib.rt:50:5
+-- src/joins.rt:50:5
 loop-again : tie.Need-loop-again Inv-loop μ-loop
 loop-again c =
     let s = c .before .before .before .before .before .before .before .before .before .before .before .before in
@@ -94,11 +94,11 @@ loop-again c =
     (c .before .before .before .before .get2 .result .v) (c .before .before .add .result .v) (c .before .before .before .before .get2 .ensures)
     (c .before .before .add .ensures) (c .before .lower-cell .ensures))
 
--- src/lib.rt:41:1
+-- src/joins.rt:41:1
 same-length-2 : tie.Need-same-length-2 Inv-loop μ-loop
 same-length-2 c = search needs
 
--- src/lib.rt:41:1
+-- src/joins.rt:41:1
 returns-2 : tie.Need-returns-2 Inv-loop μ-loop
 returns-2 c =
     let s = c .before .before .before .before .before .before in

@@ -7,8 +7,8 @@ use Rattle.rules.proofs.Demands.{version1-coherent}
 use Rattle.tables.specs.Sweep.{joinMiddle, joinAll}
 use Rattle.tables.proofs.Turns.{Turns, turns-none, turns-more, turns-all}
 use Rattle.tables.proofs.Steps.{middle-lowers}
-use Rattle.tables.proofs.join_all.Statement.{statement}
-use Rattle.tables.proofs.join_all.Tie as tie
+use Rattle.tables.proofs.joins.join_all.Statement.{statement}
+use Rattle.tables.proofs.joins.join_all.Tie as tie
 
 abbrev Inv-loop : tie.InvT-loop
 Inv-loop t₀ n y₀ t y = Turns version1 n n (joinMiddle version1 n) y t₀ t
