@@ -9,3 +9,4 @@ pub mod First
 pub mod Going
 pub mod Turns
 pub mod Ready
+pub mod Links

@@ -1,8 +1,12 @@
 // Two lent tables: the sweep that lowers them to the least totals. What each function computes is said by the functions of lists in specs/Sweep.antt.
 // Here one cell: read, written, and lowered.
 mod joins;
+mod lowers;
+mod uppers;
 
 pub use joins::join_all;
+pub use lowers::lower_all;
+pub use uppers::upper_all;
 ghost use mathlib.Core.Path.{_≡_};
 ghost use Prim.Native.Nat.{_+_, _*_, _≤_, _<_};
 ghost use lib.ListN.{length, getD, set};
