@@ -10,3 +10,5 @@ pub mod Going
 pub mod Turns
 pub mod Ready
 pub mod Links
+pub mod Starts
+pub mod Sounds

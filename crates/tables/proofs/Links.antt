@@ -61,6 +61,6 @@ link-points {s} {n} {m} {k} r =
 pub pair-at : (r : Ranges) (n : ℕ) {a a′ b b′ : Link} (t : List ℤ) {u : List ℤ} → a ≡ a′ → b ≡ b′ → u ≡ lowerPair r n a b t → u ≡ lowerPair r n a′ b′ t
 pair-at r n t ea eb eu = rw (← ea, ← eb) eu
 
--- Upper with the link as it was read
-pub upper-at : (r : Ranges) (n x : ℕ) {a a′ : Link} (t : List ℤ) {u : List ℤ} → a ≡ a′ → u ≡ upperCell r n x a t → u ≡ upperCell r n x a′ t
-upper-at r n x t ea eu = rw (← ea) eu
+-- a step with its record as it was read
+pub at-read : {A : Type 0} (f : A → List ℤ) {a a′ : A} {u : List ℤ} → a ≡ a′ → u ≡ f a → u ≡ f a′
+at-read f e eu = eu ∙ ap f e

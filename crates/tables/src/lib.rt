@@ -2,11 +2,16 @@
 // Here one cell: read, written, and lowered.
 mod joins;
 mod lowers;
+mod opening;
+mod starting;
+mod sweep;
 mod uppers;
 
-pub use joins::join_all;
-pub use lowers::lower_all;
-pub use uppers::upper_all;
+pub use starting::first_open;
+pub use starting::first_strict;
+pub use starting::mark_all;
+pub use sweep::sweep_open;
+pub use sweep::sweep_strict;
 ghost use mathlib.Core.Path.{_≡_};
 ghost use Prim.Native.Nat.{_+_, _*_, _≤_, _<_};
 ghost use lib.ListN.{length, getD, set};

@@ -1,4 +1,5 @@
 -- `uppers::upper_point` meets its contract: a turn for each link. Assumes nothing.
+use borrow.Author.Needs.{needs}
 use Prim.Native.Nat.{_-_}
 use native.Mathlib.Omega.{arith}
 use Rattle.rules.specs.Plan.{version1}
@@ -7,8 +8,7 @@ use Rattle.plan.specs.Layout.{linkAt}
 use Rattle.tables.specs.Sweep.{upperCell, upperPoint}
 use Rattle.tables.proofs.Turns.{Turns, turns-none, turns-more, turns-all}
 use Rattle.tables.proofs.Steps.{upper-cell-lowers}
-use Rattle.tables.proofs.Links.{few, link-read, link-points, upper-at}
-use borrow.Author.Needs.{needs}
+use Rattle.tables.proofs.Links.{few, link-read, link-points, at-read}
 use Rattle.tables.proofs.uppers.upper_point.Statement.{statement}
 use Rattle.tables.proofs.uppers.upper_point.Tie as tie
 
@@ -46,7 +46,7 @@ loop-again c =
     let link-at = c .before .before .before .link-at in
     let upper-cell = c .before .upper-cell in
     turns-more (upper-cell-lowers version1 version1-coherent (s .args .n) (linkAt (s .args .file .now) (s .args .m)) (s .args .k) (link-points (s .pre .1)) (s .args .x) (s .pre .0)) (loop .inv) (omega arith)
-    (upper-at version1 (s .args .n) (s .args .x) (loop .t) (link-at .ensures) (upper-cell .ensures))
+    (at-read (λ a. upperCell version1 (s .args .n) (s .args .x) a (loop .t)) (link-at .ensures) (upper-cell .ensures))
 
 same-length : tie.Need-same-length Inv-loop μ-loop
 same-length c = search needs
