@@ -5,21 +5,21 @@ use mathlib.Core.Bool.{Bool, true, false, cond, true≢false}
 use mathlib.Core.Logic.{_⊎_, inl, inr}
 use Prim.Native.Nat.{ℕ, suc, _+_, _-_, _^_, _≤_}
 use native.Mathlib.Omega.{arith}
-use lib.Dec.{eqb}
-use lib.IntN.{ℤ, pos, negsuc, negℤ, _+ℤ_, _-ℤ_}
-use lib.Signed.{ltZ, _≤ℤ_, _<ℤ_}
+use lib.Dec.{T, eqb}
+use lib.IntN.{ℤ, pos, negsuc, negℤ, natAbs, _+ℤ_, _-ℤ_}
+use lib.Signed.{ltZ, nonNeg, _≤ℤ_, _<ℤ_}
 use borrow.Author.Tests.{eq-eqb, ne-eqb}
 use mir.Syntax.{Width, w32, w64}
-use mir.Val.{SFits, ofZ, toZ, hbits, bits}
+use mir.Val.{Fits, SFits, ofZ, toZ, hbits, bits}
 use mir.ValLaws.{pow-bits}
 use Rattle.whole.specs.Signed.{larger}
-use Rattle.whole.proofs.Order.{ints, plus, neg, split}
+use Rattle.whole.proofs.Order.{ints, plus, neg, parts, split}
 use Rattle.whole.proofs.Larger.{larger-least}
-use Rattle.whole.proofs.Bits.{signed, kept, lt-ltZ, le-ltZ, cast-is}
+use Rattle.whole.proofs.Bits.{signed, kept, back, abs, by-nonNeg, lt-ltZ, le-ltZ, cast-is}
 use Rattle.rules.specs.Plan.{Ranges, Link, version1}
 use Rattle.rules.specs.Edges.{spread}
 use Rattle.rules.specs.Cells.{Cell, mark, num, cellOf, _+ᶜ_, lowered, uppered, Within}
-use Rattle.cell.specs.Steps.{adding, isMark, belowᶜ, Stored, clamped, Decides}
+use Rattle.cell.specs.Steps.{adding, isMark, belowᶜ, Stored, clamped, height, Decides}
 
 -- ---- the mark and the numbers beside it
 
@@ -60,6 +60,10 @@ lower-mark e k j = rw e
 
 pub upper-mark : {c : Cell} → c ≡ mark → (k : Link) → c ≡ uppered k c
 upper-mark e k = rw e
+
+-- the height of the mark
+pub height-mark : (reach : ℕ) (c : Cell) → c ≡ mark → reach + reach + 2 ≡ height reach c
+height-mark reach c e = rw e
 
 -- a number of a type whose largest number is m: the mark, or a number below it
 pub data Side (m : ℕ) (a : ℤ) : Type 0 where
@@ -228,3 +232,21 @@ module _ {w : Width} {r : Ranges} (room : Room w r) where
   pub clamp-within : (a : ℤ) → ltZ (pos (r .reach)) a ≡ false → ltZ a (negℤ (pos (r .reach))) ≡ false
       → clamped (r .reach) (cellOf (r .mark) a) ≡ cellOf (r .mark) a
   clamp-within a f g = rw (number-is (r .mark) a (omega signed), f, g)
+
+  -- the height of a number: its distance to the floor fits the type, is not negative, and fits 64 bits without a sign
+  pub height-fits : {a : ℤ} → Number r a → SFits w (a +ℤ pos (suc (r .reach)))
+  height-fits {a} x = omega (signed, plus a (pos (suc (r .reach))))
+
+  pub height-casts : {a b : ℤ} → Number r a → r .reach + r .reach + 2 ≤ 2 ^ bits w64 → b ≡ a +ℤ pos (suc (r .reach))
+      → T (nonNeg (toZ w (ofZ w b))) × Fits w64 (natAbs (toZ w (ofZ w b)))
+  height-casts {a} {b} x h e =
+      let z : ℤ = a +ℤ pos (suc (r .reach)) in
+      rw (e, back (height-fits x)) (
+        by-nonNeg z (omega (signed, plus a (pos (suc (r .reach))))),
+        record { fits = omega (signed, plus a (pos (suc (r .reach))), abs z, parts z) },
+      )
+
+  pub height-is : {a b : ℤ} → Number r a → b ≡ a +ℤ pos (suc (r .reach)) → natAbs (toZ w (ofZ w b)) ≡ height (r .reach) (cellOf (r .mark) a)
+  height-is {a} {b} x e =
+      let z : ℤ = a +ℤ pos (suc (r .reach)) in
+      rw (e, back (height-fits x), x .is) (omega (signed, plus a (pos (suc (r .reach))), abs z, parts z))

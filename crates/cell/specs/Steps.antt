@@ -2,9 +2,10 @@
 -- Assumes nothing.
 use mathlib.Core.Path.{_≡_}
 use mathlib.Core.Bool.{Bool, true, false, cond}
-use Prim.Native.Nat.{ℕ}
-use lib.IntN.{ℤ, pos, negsuc, negℤ}
+use Prim.Native.Nat.{ℕ, suc, _+_}
+use lib.IntN.{ℤ, pos, negsuc, negℤ, _+ℤ_}
 use lib.Signed.{ltZ, _≤ℤ_}
+use Rattle.whole.specs.Signed.{up}
 use Rattle.rules.specs.Plan.{Ranges, version1}
 use Rattle.rules.specs.Cells.{Cell, mark, num, cellOf}
 
@@ -50,6 +51,11 @@ clamped reach (num c) = cond (ltZ (pos reach) c) mark (cond (ltZ c (negℤ (pos 
 abbrev pub numberOf : ℕ → Cell → ℤ
 numberOf m mark = pos m
 numberOf m (num a) = a
+
+-- how far a cell stands above the floor: the mark stands one above the reach
+abbrev pub height : ℕ → Cell → ℕ
+height reach mark = reach + reach + 2
+height reach (num c) = up (c +ℤ pos (suc reach))
 
 -- a test that decides a statement
 pub record Decides (b : Bool) (P : Type 0) : Type 0 where

@@ -13,7 +13,7 @@ ghost use Rattle.whole.specs.Signed.{larger};
 ghost use Rattle.rules.specs.Plan.{Link, version1};
 ghost use Rattle.rules.specs.Edges.{spread as spreadOf};
 ghost use Rattle.rules.specs.Cells.{mark, _+ᶜ_, lowered, uppered, Within};
-ghost use Rattle.cell.specs.Steps.{cell32, isMark, belowᶜ, smallerᶜ, Stored, clamped, Decides};
+ghost use Rattle.cell.specs.Steps.{cell32, isMark, belowᶜ, smallerᶜ, Stored, clamped, height, Decides};
 
 // A cell of the paper's tables. The mark is 2,147,483,647, the reach 63,000,000.
 pub struct Cell32 {
@@ -57,7 +57,7 @@ impl Cell32 {
         Cell32 { v: self.v - o.v }
     }
 
-    fn negated(self) -> Cell32
+    pub fn negated(self) -> Cell32
         requires { ⌜ SFits w32 (negℤ (self .v)) ⌝ }
         ensures { λ r. ⌜ r .v ≡ negℤ (self .v) ⌝ }
     {
@@ -169,5 +169,17 @@ impl Cell32 {
             return Cell32 { v: -63000001 };
         }
         self
+    }
+
+    // How far the cell stands above the floor, which is one under the reach.
+    pub fn height(self) -> u64
+        requires { ⌜ Stored (version1 .reach) (cell32 (self .v)) ⌝ }
+        ensures { λ r. ⌜ r ≡ height (version1 .reach) (cell32 (self .v)) ⌝ }
+    {
+        if self.is_mark() {
+            return 126000002;
+        }
+        let above = self.plus(Cell32 { v: 63000001 });
+        above.v as u64
     }
 }

@@ -10,7 +10,7 @@ ghost use Rattle.whole.specs.Signed.{larger};
 ghost use Rattle.rules.specs.Plan.{Link, version1};
 ghost use Rattle.rules.specs.Edges.{spread as spreadOf};
 ghost use Rattle.rules.specs.Cells.{mark, _+ᶜ_, lowered, uppered, Within};
-ghost use Rattle.cell.specs.Steps.{adding, cell32, cell64, isMark, belowᶜ, smallerᶜ, Stored, clamped, Decides};
+ghost use Rattle.cell.specs.Steps.{adding, cell32, cell64, isMark, belowᶜ, smallerᶜ, Stored, clamped, height, Decides};
 
 // A cell of the tables that Add works in. The mark is 9,223,372,036,854,775,807, the reach 63 times 63,000,000.
 pub struct Cell64 {
@@ -56,7 +56,7 @@ impl Cell64 {
         Cell64 { v: self.v - o.v }
     }
 
-    fn negated(self) -> Cell64
+    pub fn negated(self) -> Cell64
         requires { ⌜ SFits w64 (negℤ (self .v)) ⌝ }
         ensures { λ r. ⌜ r .v ≡ negℤ (self .v) ⌝ }
     {
@@ -168,6 +168,18 @@ impl Cell64 {
             return Cell64 { v: -3969000001 };
         }
         self
+    }
+
+    // How far the cell stands above the floor, which is one under the reach.
+    pub fn height(self) -> u64
+        requires { ⌜ Stored (adding .reach) (cell64 (self .v)) ⌝ }
+        ensures { λ r. ⌜ r ≡ height (adding .reach) (cell64 (self .v)) ⌝ }
+    {
+        if self.is_mark() {
+            return 7938000002;
+        }
+        let above = self.plus(Cell64 { v: 3969000001 });
+        above.v as u64
     }
 
     // A cell of the paper's tables, at 64 bits.

@@ -27,8 +27,8 @@ use Rattle.tables.specs.Sweep.{iter, lowerCell, markAll, diagonalAll, li
 use Rattle.cell.proofs.Cells.{≤ᶜ-trans, smaller-left}
 use Rattle.tables.proofs.Numbers.{Clamping, above, below, inside as in-reach, clamping}
 use Rattle.tables.specs.Table.{Sound}
-use Rattle.tables.proofs.Lowering.{Lowered, Lowers, lowered-trans, cell-lowered, after-lowering, iter-lowered, iter-keeps}
-use Rattle.tables.proofs.Steps.{LinkPoints}
+use Rattle.tables.proofs.Lowering.{Lowered, Lowers, cell-lowered, after-lowering, iter-lowered, iter-keeps}
+use Rattle.tables.proofs.Steps.{diagonal-lowers, start-lowers, limit-lowers, edges-lowers}
 use Rattle.tables.proofs.Walked.{Has, Walked, cell-walked, PlanLinks}
 use Rattle.tables.proofs.Settled.{AllLinks}
 
@@ -129,9 +129,6 @@ pub record AllLimits (p : Plan) (limit : ℕ → Limit) (count : ℕ) : Type 0 w
 
 module _ (p : Plan) (r : Ranges) (h : Coherent r) (g : Pointed p) (b : Weighted (r .weight) p) where
   -- the diagonal
-  diagonal-lowers : Lowers r (p .points) (p .points) (λ x. lowerCell r (p .points) x x (num (pos zero)))
-  diagonal-lowers x hx t s = cell-lowered r h (p .points) x x (num (pos zero)) t hx hx s
-
   pub diagonal-walked : (E : ℕ → ℕ → ℤ → Type 0) (t : List ℤ) → Walked E r (p .points) t → Walked E r (p .points) (diagonalAll r (p .points) t)
   unfolding diagonalAll
   diagonal-walked E t w =
@@ -141,20 +138,18 @@ module _ (p : Plan) (r : Ranges) (h : Coherent r) (g : Pointed p) (b : Weighted 
   pub diagonal-lowered : (t : List ℤ) → Sound r (p .points) t → Lowered r (p .points) t (diagonalAll r (p .points) t)
   unfolding diagonalAll
   diagonal-lowered t s =
-      iter-lowered r (p .points) (p .points) (λ x. lowerCell r (p .points) x x (num (pos zero))) diagonal-lowers t s
+      iter-lowered r (p .points) (p .points) (λ x. lowerCell r (p .points) x x (num (pos zero))) (diagonal-lowers r h (p .points)) t s
 
   pub diagonal-below : (t : List ℤ) → Sound r (p .points) t → (x : ℕ) → x < p .points
       → tableOf r (p .points) (diagonalAll r (p .points) t) x x ≤ᶜ num (pos zero)
   unfolding diagonalAll
   diagonal-below t s x hx =
-      iter-below r h (p .points) x x (p .points) (num (pos zero)) (λ x. lowerCell r (p .points) x x (num (pos zero))) hx hx diagonal-lowers
+      iter-below r h (p .points) x x (p .points) (num (pos zero)) (λ x. lowerCell r (p .points) x x (num (pos zero))) hx hx
+      (diagonal-lowers r h (p .points))
       x hx
       (λ u su. cell-below r h (p .points) x x (pos zero) u hx hx su (omega (ints, neg (pos (r .reach)))) (omega ints)) t s
 
   -- start edges
-  start-lowers : Lowers r (p .points) (p .points) (λ x. lowerCell r (p .points) x zero (num (pos zero)))
-  start-lowers x hx t s = cell-lowered r h (p .points) x zero (num (pos zero)) t hx (g .some-point) s
-
   pub start-walked : (t : List ℤ) → Walked (Derivable p) r (p .points) t → Walked (Derivable p) r (p .points) (startAll r (p .points) t)
   unfolding startAll
   start-walked t w =
@@ -166,14 +161,14 @@ module _ (p : Plan) (r : Ranges) (h : Coherent r) (g : Pointed p) (b : Weighted 
   pub start-lowered : (t : List ℤ) → Sound r (p .points) t → Lowered r (p .points) t (startAll r (p .points) t)
   unfolding startAll
   start-lowered t s =
-      iter-lowered r (p .points) (p .points) (λ x. lowerCell r (p .points) x zero (num (pos zero))) start-lowers t s
+      iter-lowered r (p .points) (p .points) (λ x. lowerCell r (p .points) x zero (num (pos zero))) (start-lowers r h (p .points)) t s
 
   pub start-below : (t : List ℤ) → Sound r (p .points) t → (x : ℕ) → x < p .points
       → tableOf r (p .points) (startAll r (p .points) t) x zero ≤ᶜ num (pos zero)
   unfolding startAll
   start-below t s x hx =
       iter-below r h (p .points) x zero (p .points) (num (pos zero)) (λ x. lowerCell r (p .points) x zero (num (pos zero))) hx (g .some-point)
-      start-lowers x hx
+      (start-lowers r h (p .points)) x hx
       (λ u su. cell-below r h (p .points) x zero (pos zero) u hx (g .some-point) su (omega (ints, neg (pos (r .reach)))) (omega ints)) t s
 
   -- a given edge's weight is in reach
@@ -185,11 +180,10 @@ module _ (p : Plan) (r : Ranges) (h : Coherent r) (g : Pointed p) (b : Weighted 
 
   -- limits
   module _ (limit : ℕ → Limit) (count : ℕ) (a : AllLimits p limit count) where
-    limit-lowers : Lowers r (p .points) count (λ i. limitCell r (p .points) (limit i))
-    unfolding limitCell
-    limit-lowers i hi t s =
-        cell-lowered r h (p .points) (limit i .from) (limit i .to) (num (limit i .weight)) t (g .limit-from (limit i) (a .member i hi))
-        (g .limit-to (limit i) (a .member i hi)) s
+    lowers-limits : Lowers r (p .points) count (λ i. limitCell r (p .points) (limit i))
+    lowers-limits =
+        limit-lowers r h (p .points) limit count (λ i hi. g .limit-from (limit i) (a .member i hi))
+        (λ i hi. g .limit-to (limit i) (a .member i hi))
 
     pub limit-walked : (t : List ℤ) → Walked (Derivable p) r (p .points) t
         → Walked (Derivable p) r (p .points) (limitAll r (p .points) limit count t)
@@ -204,14 +198,14 @@ module _ (p : Plan) (r : Ranges) (h : Coherent r) (g : Pointed p) (b : Weighted 
 
     pub limit-lowered : (t : List ℤ) → Sound r (p .points) t → Lowered r (p .points) t (limitAll r (p .points) limit count t)
     unfolding limitAll
-    limit-lowered t s = iter-lowered r (p .points) count (λ i. limitCell r (p .points) (limit i)) limit-lowers t s
+    limit-lowered t s = iter-lowered r (p .points) count (λ i. limitCell r (p .points) (limit i)) lowers-limits t s
 
     pub limit-below : (t : List ℤ) → Sound r (p .points) t → (m : Limit) → List·Memᴰ m (p .limits)
         → tableOf r (p .points) (limitAll r (p .points) limit count t) (m .from) (m .to) ≤ᶜ num (m .weight)
     unfolding limitAll limitCell
     limit-below t s m k =
         iter-below r h (p .points) (m .from) (m .to) count (num (m .weight)) (λ i. limitCell r (p .points) (limit i)) (g .limit-from m k)
-        (g .limit-to m k) limit-lowers (a .index m k) (a .index-below m k)
+        (g .limit-to m k) lowers-limits (a .index m k) (a .index-below m k)
         (λ u su.
         subst (λ (l : Limit). tableOf r (p .points) (limitCell r (p .points) l u) (m .from) (m .to) ≤ᶜ num (m .weight)) (sym (a .index-is m k))
         (cell-below r h (p .points) (m .from) (m .to) (m .weight) u (g .limit-from m k) (g .limit-to m k) su
@@ -219,18 +213,8 @@ module _ (p : Plan) (r : Ranges) (h : Coherent r) (g : Pointed p) (b : Weighted 
 
   -- links
   module _ (link : ℕ → Link) (count : ℕ) (a : AllLinks p link count) where
-    edges-lowered : (k : Link) → List·Memᴰ k (p .links) → (t : List ℤ) → Sound r (p .points) t
-        → Lowered r (p .points) t (linkEdges r (p .points) k t)
-    unfolding linkEdges
-    edges-lowered k m t s =
-        let u : List ℤ = lowerCell r (p .points) (k .act) (k .con) (num (pos (k .long))) t in
-        let first : Lowered r (p .points) t u =
-        cell-lowered r h (p .points) (k .act) (k .con) (num (pos (k .long))) t (g .link-act k m) (g .link-con k m) s in
-        lowered-trans r (p .points) t u (linkEdges r (p .points) k t) first
-        (cell-lowered r h (p .points) (k .con) (k .act) (num (negℤ (pos (k .short)))) u (g .link-con k m) (g .link-act k m) (first .sound))
-
     link-lowers : Lowers r (p .points) count (λ i. linkEdges r (p .points) (link i))
-    link-lowers i hi t s = edges-lowered (link i) (a .links .member i hi) t s
+    link-lowers = edges-lowers r h (p .points) link count (a .links .points)
 
     pub link-walked : (t : List ℤ) → Walked (Derivable p) r (p .points) t
         → Walked (Derivable p) r (p .points) (linkAll r (p .points) link count t)

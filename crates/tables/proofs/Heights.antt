@@ -14,8 +14,8 @@ use Rattle.whole.proofs.Place.{inside, Spot, spot}
 use Rattle.rules.specs.Plan.{Ranges}
 use Rattle.rules.proofs.Lists.{same-list}
 use Rattle.rules.specs.Cells.{Cell, mark, num, _≤ᶜ_, cellOf, tableOf}
-use Rattle.cell.specs.Steps.{Stored}
-use Rattle.tables.specs.Sweep.{height, heights}
+use Rattle.cell.specs.Steps.{Stored, height}
+use Rattle.tables.specs.Sweep.{heights}
 use Rattle.tables.specs.Table.{Sound}
 use Rattle.tables.proofs.Lowering.{Lowered}
 

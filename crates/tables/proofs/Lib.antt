@@ -9,3 +9,6 @@ pub mod First
 pub mod Going
 pub mod Turns
 pub mod Ready
+pub mod Links
+pub mod Starts
+pub mod Sounds

@@ -5,12 +5,13 @@ use mathlib.Core.Logic.{_≢_}
 use mathlib.Core.Bool.{Bool, true, false, cond}
 use mathlib.Core.List.{List}
 use Prim.Native.Nat.{ℕ, zero, suc, _+_, _*_, _≤_, _<_}
+use native.Mathlib.Omega.{arith}
 use lib.Dec.{T, eqb, eqb→eq}
 use lib.IntN.{ℤ, pos, negℤ}
 use Rattle.rules.specs.Plan.{Limit, Link, Ranges, Coherent}
 use Rattle.rules.specs.Cells.{Cell, num, _+ᶜ_, _≤ᶜ_, lowered, uppered, tableOf}
 use Rattle.cell.specs.Steps.{clamped}
-use Rattle.tables.specs.Sweep.{iter, lowerCell, joinCell, joinRow, joinMiddle, joinAll, lowerPair, lowerLink, lowerAll, upperCell, upperPoint, upperAll, openCell, openRow, openAll, caseLink, caseAll, sweepStrict, sweepOpen, limitCell, limitAll, diagonalAll, startAll, linkEdges, linkAll}
+use Rattle.tables.specs.Sweep.{iter, lowerCell, joinCell, joinRow, joinMiddle, joinAll, lowerPair, lowerLink, lowerAll, upperCell, upperPoint, upperAll, openCell, openRow, openAll, caseLink, caseAll, sweepStrict, sweepOpen, limitCell, linkEdges}
 use Rattle.tables.specs.Table.{Sound}
 use Rattle.tables.proofs.Lowering.{Lowered, Lowers, lowered-refl, lowered-trans, cell-lowered, cell-fixed, iter-lowered, iter-fixed, both-fixed}
 
@@ -163,6 +164,30 @@ module _ (r : Ranges) (h : Coherent r) (n : ℕ) where
       let cell : openCell r n strict x y t ≡ t =
       iter-fixed r n n (openCell r n strict x) (open-cell-lowers strict x hx) t s row y hy in
       cell-fixed r h n x y (tableOf r n strict x y) t hx hy s cell
+
+  -- ---- first tables
+
+  pub diagonal-lowers : Lowers r n n (λ x. lowerCell r n x x (num (pos zero)))
+  diagonal-lowers x hx t s = cell-lowered r h n x x (num (pos zero)) t hx hx s
+
+  pub start-lowers : Lowers r n n (λ x. lowerCell r n x zero (num (pos zero)))
+  start-lowers x hx t s = cell-lowered r h n x zero (num (pos zero)) t hx (omega arith) s
+
+  pub limit-lowers : (limit : ℕ → Limit) (count : ℕ) → ((i : ℕ) → i < count → limit i .from < n) → ((i : ℕ) → i < count → limit i .to < n)
+      → Lowers r n count (λ i. limitCell r n (limit i))
+  unfolding limitCell
+  limit-lowers limit count from to i hi t s =
+      cell-lowered r h n (limit i .from) (limit i .to) (num (limit i .weight)) t (from i hi) (to i hi) s
+
+  pub edges-lowers : (link : ℕ → Link) (count : ℕ) → LinkPoints n link count → Lowers r n count (λ i. linkEdges r n (link i))
+  unfolding linkEdges
+  edges-lowers link count p i hi t s =
+      let k : Link = link i in
+      let u : List ℤ = lowerCell r n (k .act) (k .con) (num (pos (k .long))) t in
+      let first : Lowered r n t u =
+      cell-lowered r h n (k .act) (k .con) (num (pos (k .long))) t (p .act-below i hi) (p .con-below i hi) s in
+      lowered-trans r n t u (linkEdges r n k t) first
+      (cell-lowered r h n (k .con) (k .act) (num (negℤ (pos (k .short)))) u (p .con-below i hi) (p .act-below i hi) (first .sound))
 
   -- ---- a whole sweep
 

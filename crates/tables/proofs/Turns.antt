@@ -73,13 +73,13 @@ pub record Turns (r : Ranges) (n m : ℕ) (f : ℕ → List ℤ → List ℤ) (i
   pub lowered : Lowered r n start now
 
 -- none yet
-pub turns-none : (r : Ranges) (n m : ℕ) (f : ℕ → List ℤ → List ℤ) (t : List ℤ) → Sound r n t → Turns r n m f 0 t t
-turns-none r n m f t s = record { bound = omega arith; is = refl; lowered = lowered-refl r n t s }
+pub turns-none : {r : Ranges} {n m : ℕ} {f : ℕ → List ℤ → List ℤ} {t : List ℤ} → Sound r n t → Turns r n m f 0 t t
+turns-none {r} {n} {m} {f} {t} s = record { bound = omega arith; is = refl; lowered = lowered-refl r n t s }
 
 -- one more
-pub turns-more : (r : Ranges) (n m : ℕ) (f : ℕ → List ℤ → List ℤ) (i : ℕ) (start now next : List ℤ) → Lowers r n m f
+pub turns-more : {r : Ranges} {n m : ℕ} {f : ℕ → List ℤ → List ℤ} {i : ℕ} {start now next : List ℤ} → Lowers r n m f
     → Turns r n m f i start now → i < m → next ≡ f i now → Turns r n m f (i + 1) start next
-turns-more r n m f i start now next l t h e =
+turns-more {r} {n} {m} {f} {i} {start} {now} {next} l t h e =
     record {
       bound = omega arith;
       is = rw (add-one i) (e ∙ ap (f i) (t .is));
@@ -89,8 +89,8 @@ turns-more r n m f i start now next l t h e =
     }
 
 -- all of them
-pub turns-all : (r : Ranges) (n m : ℕ) (f : ℕ → List ℤ → List ℤ) (i : ℕ) (start now : List ℤ) → Turns r n m f i start now → m ≤ i
+pub turns-all : {r : Ranges} {n m : ℕ} {f : ℕ → List ℤ → List ℤ} {i : ℕ} {start now : List ℤ} → Turns r n m f i start now → m ≤ i
     → now ≡ iter f m start
-turns-all r n m f i start now t h =
+turns-all {r} {n} {m} {f} {i} {start} {now} t h =
     let e : i ≡ m = omega (arith, t .bound) in
     subst (λ (k : ℕ). now ≡ iter f k start) e (t .is)

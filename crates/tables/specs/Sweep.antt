@@ -6,11 +6,10 @@ use mathlib.Core.List.{List}
 use Prim.Native.Nat.{ℕ, zero, suc, _+_, _*_}
 use lib.Dec.{eqb}
 use lib.ListN.{getD, set}
-use lib.IntN.{ℤ, pos, negℤ, _+ℤ_}
-use Rattle.whole.specs.Signed.{up}
+use lib.IntN.{ℤ, pos, negℤ}
 use Rattle.rules.specs.Plan.{Limit, Link, Ranges}
 use Rattle.rules.specs.Cells.{Cell, mark, num, _+ᶜ_, lowered, uppered, cellOf, tableOf}
-use Rattle.cell.specs.Steps.{smallerᶜ, clamped, numberOf}
+use Rattle.cell.specs.Steps.{smallerᶜ, clamped, numberOf, height}
 
 -- a step for each number below m, in their order
 abbrev pub iter : (ℕ → List ℤ → List ℤ) → ℕ → List ℤ → List ℤ
@@ -138,11 +137,6 @@ unfoldable pub firstOpen : Ranges → ℕ → List ℤ → List ℤ
 firstOpen r n t = diagonalAll r n (markAll r (n * n) t)
 
 -- ---- how far it can still fall
-
--- how far a cell stands above the floor
-abbrev pub height : ℕ → Cell → ℕ
-height reach mark = reach + reach + 2
-height reach (num c) = up (c +ℤ pos (suc reach))
 
 -- the heights of the first m cells together
 unfoldable pub heights : Ranges → ℕ → List ℤ → ℕ

@@ -1,5 +1,4 @@
--- `tables::join_middle` meets its contract: a turn for each row. Assumes nothing.
-use borrow.Author.Needs.{needs}
+-- `joins::join_middle` meets its contract: a turn for each row. Assumes nothing.
 use Prim.Native.Nat.{_-_}
 use native.Mathlib.Omega.{arith}
 use Rattle.rules.specs.Plan.{version1}
@@ -7,8 +6,9 @@ use Rattle.rules.proofs.Demands.{version1-coherent}
 use Rattle.tables.specs.Sweep.{joinRow, joinMiddle}
 use Rattle.tables.proofs.Turns.{Turns, turns-none, turns-more, turns-all}
 use Rattle.tables.proofs.Steps.{row-lowers}
-use Rattle.tables.proofs.join_middle.Statement.{statement}
-use Rattle.tables.proofs.join_middle.Tie as tie
+use borrow.Author.Needs.{needs}
+use Rattle.tables.proofs.joins.join_middle.Statement.{statement}
+use Rattle.tables.proofs.joins.join_middle.Tie as tie
 
 abbrev Inv-loop : tie.InvT-loop
 Inv-loop t₀ n y x₀ t x = Turns version1 n n (joinRow version1 n y) x t₀ t
@@ -18,12 +18,14 @@ abbrev μ-loop : tie.MeasureT-loop
 
 loop-holds : tie.Need-loop-holds Inv-loop μ-loop
 loop-holds c =
-    turns-none version1 (c .args .n) (c .args .n) (joinRow version1 (c .args .n) (c .args .y)) (c .args .t .now) (c .pre .2)
+    let s = c in
+    turns-none (s .pre .2)
 
 join-row-requires : tie.Need-join-row-requires Inv-loop μ-loop
 join-row-requires c κs =
     let s = c .before .before .before in
-    (omega arith, s .pre .0, s .pre .1, c .before .before .loop .inv .lowered .sound)
+    let loop = c .before .before .loop in
+    (omega arith, s .pre .0, s .pre .1, loop .inv .lowered .sound)
 
 add-x : tie.Need-add-x Inv-loop μ-loop
 add-x c = search needs
@@ -35,9 +37,8 @@ loop-again : tie.Need-loop-again Inv-loop μ-loop
 loop-again c =
     let s = c .before .before .before .before .before in
     let loop = c .before .before .before .before .loop in
-    turns-more version1 (s .args .n) (s .args .n) (joinRow version1 (s .args .n) (s .args .y)) (loop .x) (s .args .t .now) (loop .t)
-    (c .before .join-row .last .0) (row-lowers version1 version1-coherent (s .args .n) (s .args .y)) (loop .inv) (omega arith)
-    (c .before .join-row .ensures)
+    let join-row = c .before .join-row in
+    turns-more (row-lowers version1 version1-coherent (s .args .n) (s .args .y)) (loop .inv) (omega arith) (join-row .ensures)
 
 same-length : tie.Need-same-length Inv-loop μ-loop
 same-length c = search needs
@@ -45,12 +46,19 @@ same-length c = search needs
 returns : tie.Need-returns Inv-loop μ-loop
 unfolding joinMiddle
 returns c =
-    let s = c .before .before in
     let loop = c .before .loop in
-    turns-all version1 (s .args .n) (s .args .n) (joinRow version1 (s .args .n) (s .args .y)) (loop .x) (s .args .t .now) (loop .t) (loop .inv)
-    (omega arith)
+    turns-all (loop .inv) (omega arith)
 
 pub join-middle-spec : {M : Type 1} → statement M
 join-middle-spec =
     tie.close
-    (tie.spec Inv-loop μ-loop loop-holds join-row-requires add-x loop-less loop-again same-length returns)
+    (tie.spec
+    Inv-loop
+    μ-loop
+    loop-holds
+    join-row-requires
+    add-x
+    loop-less
+    loop-again
+    same-length
+    returns)

@@ -1,5 +1,4 @@
--- `tables::join_all` meets its contract: a turn for each middle. Assumes nothing.
-use borrow.Author.Needs.{needs}
+-- `joins::join_all` meets its contract: a turn for each middle. Assumes nothing.
 use Prim.Native.Nat.{_-_}
 use native.Mathlib.Omega.{arith}
 use Rattle.rules.specs.Plan.{version1}
@@ -7,8 +6,9 @@ use Rattle.rules.proofs.Demands.{version1-coherent}
 use Rattle.tables.specs.Sweep.{joinMiddle, joinAll}
 use Rattle.tables.proofs.Turns.{Turns, turns-none, turns-more, turns-all}
 use Rattle.tables.proofs.Steps.{middle-lowers}
-use Rattle.tables.proofs.join_all.Statement.{statement}
-use Rattle.tables.proofs.join_all.Tie as tie
+use borrow.Author.Needs.{needs}
+use Rattle.tables.proofs.joins.join_all.Statement.{statement}
+use Rattle.tables.proofs.joins.join_all.Tie as tie
 
 abbrev Inv-loop : tie.InvT-loop
 Inv-loop t₀ n y₀ t y = Turns version1 n n (joinMiddle version1 n) y t₀ t
@@ -18,12 +18,14 @@ abbrev μ-loop : tie.MeasureT-loop
 
 loop-holds : tie.Need-loop-holds Inv-loop μ-loop
 loop-holds c =
-    turns-none version1 (c .args .n) (c .args .n) (joinMiddle version1 (c .args .n)) (c .args .t .now) (c .pre .1)
+    let s = c in
+    turns-none (s .pre .1)
 
 join-middle-requires : tie.Need-join-middle-requires Inv-loop μ-loop
 join-middle-requires c κs =
     let s = c .before .before .before in
-    (omega arith, s .pre .0, c .before .before .loop .inv .lowered .sound)
+    let loop = c .before .before .loop in
+    (omega arith, s .pre .0, loop .inv .lowered .sound)
 
 add-y : tie.Need-add-y Inv-loop μ-loop
 add-y c = search needs
@@ -35,9 +37,8 @@ loop-again : tie.Need-loop-again Inv-loop μ-loop
 loop-again c =
     let s = c .before .before .before .before .before in
     let loop = c .before .before .before .before .loop in
-    turns-more version1 (s .args .n) (s .args .n) (joinMiddle version1 (s .args .n)) (loop .y) (s .args .t .now) (loop .t)
-    (c .before .join-middle .last .0) (middle-lowers version1 version1-coherent (s .args .n)) (loop .inv) (omega arith)
-    (c .before .join-middle .ensures)
+    let join-middle = c .before .join-middle in
+    turns-more (middle-lowers version1 version1-coherent (s .args .n)) (loop .inv) (omega arith) (join-middle .ensures)
 
 same-length : tie.Need-same-length Inv-loop μ-loop
 same-length c = search needs
@@ -45,12 +46,19 @@ same-length c = search needs
 returns : tie.Need-returns Inv-loop μ-loop
 unfolding joinAll
 returns c =
-    let s = c .before .before in
     let loop = c .before .loop in
-    turns-all version1 (s .args .n) (s .args .n) (joinMiddle version1 (s .args .n)) (loop .y) (s .args .t .now) (loop .t) (loop .inv)
-    (omega arith)
+    turns-all (loop .inv) (omega arith)
 
 pub join-all-spec : {M : Type 1} → statement M
 join-all-spec =
     tie.close
-    (tie.spec Inv-loop μ-loop loop-holds join-middle-requires add-y loop-less loop-again same-length returns)
+    (tie.spec
+    Inv-loop
+    μ-loop
+    loop-holds
+    join-middle-requires
+    add-y
+    loop-less
+    loop-again
+    same-length
+    returns)

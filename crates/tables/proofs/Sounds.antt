@@ -1,0 +1,61 @@
+-- What each part of a sweep and of the first tables leaves is again a table that a sweep stores: stated of the list that the code left, at version 1's
+-- ranges. Assumes nothing.
+use mathlib.Core.Path.{_≡_}
+use mathlib.Core.List.{List}
+use Prim.Native.Nat.{ℕ, zero, _*_, _≤_}
+use lib.ListN.{length}
+use lib.IntN.{ℤ, pos}
+use Rattle.rules.specs.Plan.{version1}
+use Rattle.rules.specs.Cells.{num}
+use Rattle.rules.proofs.Demands.{version1-coherent}
+use Rattle.plan.specs.Layout.{limitAt, linkAt}
+use Rattle.tables.specs.Table.{Sound, Ready}
+use Rattle.tables.specs.Sweep.{lowerCell, joinAll, lowerAll, upperAll, openAll, caseAll, sweepStrict, sweepOpen, markAll, diagonalAll, limitCell, limitAll, startAll, linkEdges, linkAll}
+use Rattle.tables.proofs.Lowering.{iter-lowered}
+use Rattle.tables.proofs.Steps.{joins-lower, lower-lowers, upper-lowers, open-lowers, case-lowers, strict-lowers, open-sweep-lowers, diagonal-lowers, start-lowers, limit-lowers, edges-lowers}
+use Rattle.tables.proofs.Ready.{limit-range}
+use Rattle.tables.proofs.Links.{link-points}
+use Rattle.tables.proofs.Starts.{marks-sound}
+
+pub sound-marks : {n : ℕ} (t : List ℤ) {u : List ℤ} → n * n ≤ length t → u ≡ markAll version1 (n * n) t → Sound version1 n u
+sound-marks {n} t h e = rw e (marks-sound version1 n t h)
+
+module _ {n : ℕ} {t u : List ℤ} where
+  pub sound-joins : Sound version1 n t → u ≡ joinAll version1 n t → Sound version1 n u
+  sound-joins s e = rw e (joins-lower version1 version1-coherent n t s .sound)
+
+  pub sound-diagonal : Sound version1 n t → u ≡ diagonalAll version1 n t → Sound version1 n u
+  unfolding diagonalAll
+  sound-diagonal s e =
+      rw e
+      (iter-lowered version1 n n (λ x. lowerCell version1 n x x (num (pos zero))) (diagonal-lowers version1 version1-coherent n) t s .sound)
+
+  pub sound-starts : Sound version1 n t → u ≡ startAll version1 n t → Sound version1 n u
+  unfolding startAll
+  sound-starts s e =
+      rw e
+      (iter-lowered version1 n n (λ x. lowerCell version1 n x zero (num (pos zero))) (start-lowers version1 version1-coherent n) t s .sound)
+
+  pub sound-open : (strict : List ℤ) → Sound version1 n t → u ≡ openAll version1 n strict t → Sound version1 n u
+  sound-open strict s e = rw e (open-lowers version1 version1-coherent n strict t s .sound)
+
+  module _ {s : List ℕ} {m k : ℕ} (r : Ready s n m k) where
+    pub sound-lower : Sound version1 n t → u ≡ lowerAll version1 n (linkAt s m) k t → Sound version1 n u
+    sound-lower h e = rw e (lower-lowers version1 version1-coherent n (linkAt s m) k (link-points r) t h .sound)
+
+    pub sound-case : Sound version1 n t → u ≡ caseAll version1 n (linkAt s m) k t → Sound version1 n u
+    sound-case h e = rw e (case-lowers version1 version1-coherent n (linkAt s m) k (link-points r) t h .sound)
+
+    pub sound-limits : Sound version1 n t → u ≡ limitAll version1 n (limitAt s) m t → Sound version1 n u
+    unfolding limitAll
+    sound-limits h e =
+        rw e
+        (iter-lowered version1 n m (λ i. limitCell version1 n (limitAt s i))
+        (limit-lowers version1 version1-coherent n (limitAt s) m (λ i q. limit-range s n m k r i q .from) (λ i q. limit-range s n m k r i q .to))
+        t h .sound)
+
+    pub sound-sweep : Sound version1 n t → u ≡ sweepStrict version1 n (linkAt s m) k t → Sound version1 n u
+    sound-sweep h e = rw e (strict-lowers version1 version1-coherent n (linkAt s m) k (link-points r) t h .sound)
+
+    pub sound-open-sweep : (strict : List ℤ) → Sound version1 n t → u ≡ sweepOpen version1 n (linkAt s m) k strict t → Sound version1 n u
+    sound-open-sweep strict h e = rw e (open-sweep-lowers version1 version1-coherent n (linkAt s m) k (link-points r) strict t h .sound)
