@@ -57,7 +57,7 @@ impl Cell32 {
         Cell32 { v: self.v - o.v }
     }
 
-    fn negated(self) -> Cell32
+    pub fn negated(self) -> Cell32
         requires { ⌜ SFits w32 (negℤ (self .v)) ⌝ }
         ensures { λ r. ⌜ r .v ≡ negℤ (self .v) ⌝ }
     {
