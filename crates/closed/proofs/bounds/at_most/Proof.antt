@@ -1,0 +1,22 @@
+-- `bounds::at_most` meets its contract. Assumes nothing.
+use borrow.Author.Needs.{needs}
+use Rattle.rules.specs.Cells.{Cell, _≤ᶜ_}
+use Rattle.cell.specs.Steps.{cell32}
+use Rattle.closed.proofs.Exceeds.{decides-cell}
+use Rattle.closed.proofs.bounds.at_most.Statement.{statement}
+use Rattle.closed.proofs.bounds.at_most.Tie as tie
+
+get-requires : tie.Need-get-requires
+get-requires c κs = search needs
+
+under-requires : tie.Need-under-requires
+under-requires c κs = search needs
+
+returns : tie.Need-returns
+returns c =
+    let a = c .before .before .args in
+    decides-cell (λ (d : Cell). d ≤ᶜ cell32 (a .c .v)) (a .n) (a .x) (a .y) (a .t .now) (c .before .get .result .v) (c .before .get .ensures)
+    (c .under .ensures)
+
+pub at-most-spec : {M : Type 1} → statement M
+at-most-spec = tie.close (tie.spec get-requires under-requires returns)

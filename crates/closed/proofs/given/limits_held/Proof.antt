@@ -1,0 +1,61 @@
+-- `given::limits_held` meets its contract: a turn for each limit. Assumes nothing.
+use mathlib.Core.Path.{subst⁻¹}
+use borrow.Author.Needs.{needs}
+use Prim.Native.Nat.{_-_}
+use native.Mathlib.Omega.{arith}
+use Rattle.rules.specs.Plan.{version1, LimitInRange}
+use Rattle.rules.specs.Cells.{tableOf}
+use Rattle.plan.specs.Layout.{limitAt}
+use Rattle.closed.specs.Parts.{LimitHeld}
+use Rattle.closed.proofs.Exceeds.{decides-same}
+use Rattle.closed.proofs.Loops.{Passed, none-yet, one-more, one-failed, all-passed}
+use Rattle.closed.proofs.given.limits_held.Statement.{statement}
+use Rattle.closed.proofs.given.limits_held.Tie as tie
+
+abbrev Inv-loop : tie.InvT-loop
+Inv-loop file n m t i₀ i = Passed m (λ i. LimitHeld (tableOf version1 n t) (limitAt file i)) i
+
+abbrev μ-loop : tie.MeasureT-loop
+μ-loop file n m t i₀ i = m - i
+
+loop-holds : tie.Need-loop-holds Inv-loop μ-loop
+loop-holds c = none-yet _ _
+
+limit-at-requires : tie.Need-limit-at-requires Inv-loop μ-loop
+limit-at-requires c κs = search needs
+
+limit-held-requires : tie.Need-limit-held-requires Inv-loop μ-loop
+limit-held-requires c κs =
+    let s = c .before .before .before .before in (
+      subst⁻¹ (LimitInRange version1 (s .args .n)) (c .limit-at .ensures) (s .pre .0 (c .before .before .loop .i) (omega arith)),
+      s .pre .1,
+      s .pre .2,
+    )
+
+returns : tie.Need-returns Inv-loop μ-loop
+returns c =
+    let a = c .before .before .before .before .before .before .args in
+    let loop = c .before .before .before .before .loop in
+    one-failed _ _ (loop .i) (omega arith)
+    (decides-same (LimitHeld (tableOf version1 (a .n) (a .t .now))) (c .before .before .limit-at .ensures) (c .before .limit-held .ensures)) (c .if1 .taken)
+
+add-i : tie.Need-add-i Inv-loop μ-loop
+add-i c = search needs
+
+loop-less : tie.Need-loop-less Inv-loop μ-loop
+loop-less c = search needs
+
+loop-again : tie.Need-loop-again Inv-loop μ-loop
+loop-again c =
+    let a = c .before .before .before .before .before .before .args in
+    let loop = c .before .before .before .before .loop in
+    one-more _ _ (loop .i) (loop .inv) (omega arith)
+    (decides-same (LimitHeld (tableOf version1 (a .n) (a .t .now))) (c .before .before .limit-at .ensures) (c .before .limit-held .ensures)) (c .if1 .left)
+
+returns-2 : tie.Need-returns-2 Inv-loop μ-loop
+returns-2 c = all-passed _ _ (c .before .loop .i) (c .before .loop .inv) (omega arith)
+
+pub limits-held-spec : {M : Type 1} → statement M
+limits-held-spec =
+    tie.close
+    (tie.spec Inv-loop μ-loop loop-holds limit-at-requires limit-held-requires returns add-i loop-less loop-again returns-2)

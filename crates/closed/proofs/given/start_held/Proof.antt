@@ -1,0 +1,24 @@
+-- `given::start_held` meets its contract. Assumes nothing.
+use borrow.Author.Needs.{needs}
+use native.Mathlib.Omega.{arith}
+use lib.IntN.{pos}
+use Rattle.rules.specs.Plan.{version1}
+use Rattle.rules.specs.Cells.{tableOf}
+use Rattle.closed.proofs.Edges.{decides-number, span-small}
+use Rattle.closed.proofs.given.start_held.Statement.{statement}
+use Rattle.closed.proofs.given.start_held.Tie as tie
+
+of-requires : tie.Need-of-requires
+of-requires c κs = search needs
+
+at-most-requires : tie.Need-at-most-requires
+at-most-requires c κs = search needs
+
+returns : tie.Need-returns
+returns c =
+    let a = c .before .before .args in
+    decides-number (tableOf version1 (a .n) (a .t .now) (a .x) 0) (pos 0) (c .before .of .result .v) (c .before .of .ensures)
+    (span-small (omega arith)) (c .at-most .ensures)
+
+pub start-held-spec : {M : Type 1} → statement M
+start-held-spec = tie.close (tie.spec of-requires at-most-requires returns)

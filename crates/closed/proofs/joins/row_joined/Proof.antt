@@ -1,0 +1,105 @@
+-- `joins::row_joined` meets its contract: nothing is asked of a row with no path to the middle, else a turn for each cell. Assumes nothing.
+use mathlib.Core.Path.{sym, _∙_}
+use borrow.Author.Needs.{needs}
+use Prim.Native.Nat.{_-_}
+use native.Mathlib.Omega.{arith}
+use Rattle.rules.specs.Plan.{version1}
+use Rattle.rules.specs.Cells.{_+ᶜ_, _≤ᶜ_, tableOf}
+use Rattle.cell.specs.Steps.{Decides}
+use Rattle.cell.proofs.Laws.{is-mark, decided-yes}
+use Rattle.tables.proofs.Turns.{read-stored, read-cell}
+use Rattle.closed.proofs.Exceeds.{row-at-mark, decides-sum}
+use Rattle.closed.proofs.Loops.{Passed, none-yet, one-more, one-failed, all-passed}
+use Rattle.closed.proofs.joins.row_joined.Statement.{statement}
+use Rattle.closed.proofs.joins.row_joined.Tie as tie
+
+abbrev Inv-loop : tie.InvT-loop
+Inv-loop t n y x a z₀ z = Passed n (λ z. tableOf version1 n t x z ≤ᶜ (tableOf version1 n t x y +ᶜ tableOf version1 n t y z)) z
+
+abbrev μ-loop : tie.MeasureT-loop
+μ-loop t n y x a z₀ z = n - z
+
+get-requires : tie.Need-get-requires Inv-loop μ-loop
+get-requires c κs = search needs
+
+is-mark-requires : tie.Need-is-mark-requires Inv-loop μ-loop
+is-mark-requires c κs = search needs
+
+returns : tie.Need-returns Inv-loop μ-loop
+returns c =
+    let s = c .before .before .before in
+    let get = c .before .before .get in
+    let cell = is-mark (c .before .is-mark .ensures) (c .if1 .taken) in
+    decided-yes
+    (row-at-mark (s .args .n) (s .args .y) (s .args .x) (s .args .t .now)
+    (sym (read-cell version1 (s .args .n) (s .args .x) (s .args .y) (s .args .t .now) (get .result .v) (get .ensures)) ∙ cell))
+
+loop-holds : tie.Need-loop-holds Inv-loop μ-loop
+loop-holds c = none-yet _ _
+
+get-requires-2 : tie.Need-get-requires-2 Inv-loop μ-loop
+get-requires-2 c κs = search needs
+
+add-requires : tie.Need-add-requires Inv-loop μ-loop
+add-requires c κs =
+    let s = c .before .before .before .before .before .before in
+    let get = c .before .before .before .before .before .get in
+    let z = c .before .before .loop .z in (
+      read-stored version1 (s .args .n) (s .args .x) (s .args .y) (s .args .t .now) (get .result .v) (s .pre .3) (s .pre .0) (s .pre .1) (get .ensures),
+      read-stored version1 (s .args .n) (s .args .y) z (s .args .t .now) (c .get2 .result .v) (s .pre .3) (s .pre .1) (omega arith)
+          (c .get2 .ensures),
+    )
+
+at-most-requires : tie.Need-at-most-requires Inv-loop μ-loop
+at-most-requires c κs = search needs
+
+-- the turn's test decides the turn's sum
+sum-decided : (c : tie.After-at-most Inv-loop μ-loop)
+    → let s = c .before .before .before .before .before .before .before .before in
+    let t = tableOf version1 (s .args .n) (s .args .t .now) in
+    let z = c .before .before .before .before .loop .z in
+    Decides (c .at-most .result) (t (s .args .x) z ≤ᶜ (t (s .args .x) (s .args .y) +ᶜ t (s .args .y) z))
+sum-decided c =
+    let s = c .before .before .before .before .before .before .before .before in
+    let get = c .before .before .before .before .before .before .before .get in
+    decides-sum (s .args .n) (s .args .y) (s .args .x) (c .before .before .before .before .loop .z) (s .args .t .now) (get .result .v)
+    (c .before .before .get2 .result .v) (c .before .add .result .v) (get .ensures) (c .before .before .get2 .ensures) (c .before .add .ensures)
+    (c .at-most .ensures)
+
+returns-2 : tie.Need-returns-2 Inv-loop μ-loop
+returns-2 c =
+    let loop = c .before .before .before .before .before .loop in
+    one-failed _ _ (loop .z) (omega arith) (sum-decided (c .before)) (c .if2 .taken)
+
+add-z : tie.Need-add-z Inv-loop μ-loop
+add-z c = search needs
+
+loop-less : tie.Need-loop-less Inv-loop μ-loop
+loop-less c = search needs
+
+loop-again : tie.Need-loop-again Inv-loop μ-loop
+loop-again c =
+    let loop = c .before .before .before .before .before .loop in
+    one-more _ _ (loop .z) (loop .inv) (omega arith) (sum-decided (c .before)) (c .if2 .left)
+
+returns-3 : tie.Need-returns-3 Inv-loop μ-loop
+returns-3 c = all-passed _ _ (c .before .loop .z) (c .before .loop .inv) (omega arith)
+
+pub row-joined-spec : {M : Type 1} → statement M
+row-joined-spec =
+    tie.close
+    (tie.spec
+    Inv-loop
+    μ-loop
+    get-requires
+    is-mark-requires
+    returns
+    loop-holds
+    get-requires-2
+    add-requires
+    at-most-requires
+    returns-2
+    add-z
+    loop-less
+    loop-again
+    returns-3)

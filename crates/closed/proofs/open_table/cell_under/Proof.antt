@@ -1,0 +1,22 @@
+-- `open_table::cell_under` meets its contract. Assumes nothing.
+use borrow.Author.Needs.{needs}
+use Rattle.rules.specs.Plan.{version1}
+use Rattle.rules.specs.Cells.{Cell, _≤ᶜ_, tableOf}
+use Rattle.closed.proofs.Exceeds.{decides-cell}
+use Rattle.closed.proofs.open_table.cell_under.Statement.{statement}
+use Rattle.closed.proofs.open_table.cell_under.Tie as tie
+
+get-requires : tie.Need-get-requires
+get-requires c κs = search needs
+
+at-most-requires : tie.Need-at-most-requires
+at-most-requires c κs = search needs
+
+returns : tie.Need-returns
+returns c =
+    let a = c .before .before .args in
+    decides-cell (λ (d : Cell). tableOf version1 (a .n) (a .«open» .now) (a .x) (a .y) ≤ᶜ d) (a .n) (a .x) (a .y) (a .strict .now)
+    (c .before .get .result .v) (c .before .get .ensures) (c .at-most .ensures)
+
+pub cell-under-spec : {M : Type 1} → statement M
+cell-under-spec = tie.close (tie.spec get-requires at-most-requires returns)

@@ -1,0 +1,40 @@
+-- `upper::point_uppered` meets its contract. Assumes nothing.
+use borrow.Author.Needs.{needs}
+use native.Mathlib.Omega.{arith}
+use Rattle.rules.specs.Plan.{version1}
+use Rattle.plan.specs.Values.{linkOf}
+use Rattle.tables.proofs.Turns.{read-stored}
+use Rattle.closed.proofs.Edges.{upper-decides}
+use Rattle.closed.proofs.upper.point_uppered.Statement.{statement}
+use Rattle.closed.proofs.upper.point_uppered.Tie as tie
+
+cast-act : tie.Need-cast-act
+cast-act c = search needs
+
+cast-con : tie.Need-cast-con
+cast-con c = search needs
+
+get-requires : tie.Need-get-requires
+get-requires c κs = search needs
+
+upper-requires : tie.Need-upper-requires
+upper-requires c κs =
+    let s = c .before .before .before in
+    let k = s .args .link in (
+      read-stored version1 (s .args .n) (s .args .x) (k .con) (s .args .t .now) (c .get .result .v) (s .pre .3) (s .pre .1) (s .pre .0 .con) (c .get .ensures),
+      omega (arith, s .pre .0 .order, s .pre .0 .most),
+      s .pre .0 .most,
+    )
+
+at-most-requires : tie.Need-at-most-requires
+at-most-requires c κs = search needs
+
+returns : tie.Need-returns
+returns c =
+    let a = c .before .before .before .before .before .args in
+    upper-decides (a .n) (a .t .now) (linkOf (a .link)) (a .x) (c .before .before .get .result .v) (c .before .upper .result .v)
+    (c .before .before .get .ensures) (c .before .upper .ensures) (c .at-most .ensures)
+
+pub point-uppered-spec : {M : Type 1} → statement M
+point-uppered-spec =
+    tie.close (tie.spec cast-act cast-con get-requires upper-requires at-most-requires returns)

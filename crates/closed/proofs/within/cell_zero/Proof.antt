@@ -1,0 +1,45 @@
+-- `within::cell_zero` meets its contract: neither of the cell and 0 exceeds the other. Assumes nothing.
+use mathlib.Core.Path.{_≡_, _∙_, ap}
+use borrow.Author.Needs.{needs}
+use lib.IntN.{pos}
+use Rattle.whole.proofs.Order.{ints}
+use Rattle.rules.specs.Plan.{version1}
+use Rattle.rules.specs.Cells.{Cell, num}
+use Rattle.cell.specs.Steps.{cell32}
+use Rattle.closed.proofs.Exceeds.{decides-cell, weight-cell, not-same, same}
+use Rattle.closed.proofs.within.cell_zero.Statement.{statement}
+use Rattle.closed.proofs.within.cell_zero.Tie as tie
+
+get-requires : tie.Need-get-requires
+get-requires c κs = search needs
+
+of-requires : tie.Need-of-requires
+of-requires c κs = search needs
+
+under-requires : tie.Need-under-requires
+under-requires c κs = search needs
+
+returns : tie.Need-returns
+returns c =
+    let a = c .before .before .before .before .args in
+    let get = c .before .before .before .get in
+    let zero = c .before .before .of in
+    decides-cell (λ (d : Cell). d ≡ num (pos 0)) (a .n) (a .x) (a .x) (a .t .now) (get .result .v) (get .ensures)
+    (not-same (cell32 (get .result .v)) (cell32 (zero .result .v)) (ap cell32 (zero .ensures) ∙ weight-cell (pos 0) (omega ints))
+    (c .before .under .ensures) (c .if1 .taken))
+
+under-requires-2 : tie.Need-under-requires-2
+under-requires-2 c κs = search needs
+
+returns-2 : tie.Need-returns-2
+returns-2 c =
+    let a = c .before .before .before .before .before .args in
+    let get = c .before .before .before .before .get in
+    let zero = c .before .before .before .of in
+    decides-cell (λ (d : Cell). d ≡ num (pos 0)) (a .n) (a .x) (a .x) (a .t .now) (get .result .v) (get .ensures)
+    (same (cell32 (get .result .v)) (cell32 (zero .result .v)) (ap cell32 (zero .ensures) ∙ weight-cell (pos 0) (omega ints))
+    (c .before .before .under .ensures) (c .before .if1 .left) (c .under2 .ensures))
+
+pub cell-zero-spec : {M : Type 1} → statement M
+cell-zero-spec =
+    tie.close (tie.spec get-requires of-requires under-requires returns under-requires-2 returns-2)

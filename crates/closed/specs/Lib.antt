@@ -1,0 +1,2 @@
+-- The closed test's parts as definitions.
+pub mod Parts

@@ -1,0 +1,4 @@
+-- Laws behind the calls, and what their statements rule out.
+pub mod Checks
+pub mod Rows
+pub mod Ruled

@@ -1,0 +1,107 @@
+-- `row` meets its contract: the row lies within its table. Assumes nothing.
+use borrow.Author.Needs.{needs}
+use native.Mathlib.Omega.{arith}
+use mathlib.Core.Path.{_≡_, subst}
+use Prim.Native.Nat.{_+_, _*_, _-_}
+use lib.ListN.{length, take, drop}
+use Rattle.plan.proofs.Tests.{passed}
+use Rattle.post.specs.Row.{chosen, rowOf}
+use Rattle.post.proofs.Rows.{Fitting, fitting, row-end, square-small, no-row, row-is}
+use Rattle.post.proofs.row.Statement.{statement}
+use Rattle.post.proofs.row.Tie as tie
+
+has-row-requires : tie.Need-has-row-requires
+has-row-requires c κs = search needs
+
+slice-aggregate-result : tie.Need-slice-aggregate-result
+slice-aggregate-result c = search needs
+
+returns : tie.Need-returns
+returns c =
+    let a = c .before .before .before .args in
+    no-row (a .strict .now) (a .«open» .now) (a .n) (a .x) (a .which) (c .before .before .has-row .result) (c .before .before .has-row .ensures)
+    (c .before .if1 .taken)
+
+-- past the test there is a row
+fits : (c : tie.Else1) → let a = c .before .before .args in Fitting (length (a .strict .now)) (length (a .«open» .now)) (a .n) (a .x)
+fits c =
+    let a = c .before .before .args in
+    fitting (length (a .strict .now)) (length (a .«open» .now)) (a .n) (a .x) (passed (c .before .has-row .result) (c .before .has-row .ensures) (c .if1 .left))
+
+mul-from : tie.Need-mul-from
+mul-from c = omega (arith, row-end (fits c), square-small (fits c))
+
+add-to : tie.Need-add-to
+add-to c = omega (arith, row-end (fits c), square-small (fits c))
+
+enum-told : tie.Need-enum-told
+enum-told c = search needs
+
+mul-result : tie.Need-mul-result
+mul-result c = omega (arith, row-end (fits (c .before .before)), square-small (fits (c .before .before)))
+
+sub-result : tie.Need-sub-result
+sub-result c = search needs
+
+part-result-start : tie.Need-part-result-start
+part-result-start c = search needs
+
+part-result-end : tie.Need-part-result-end
+part-result-end c =
+    let f = fits (c .before .before) in
+    omega (arith, row-end f, f .strict-room)
+
+enum-told-2 : tie.Need-enum-told-2
+enum-told-2 c = search needs
+
+mul-result-2 : tie.Need-mul-result-2
+mul-result-2 c = omega (arith, row-end (fits (c .before .before)), square-small (fits (c .before .before)))
+
+sub-result-2 : tie.Need-sub-result-2
+sub-result-2 c = search needs
+
+part-result-start-2 : tie.Need-part-result-start-2
+part-result-start-2 c = search needs
+
+part-result-end-2 : tie.Need-part-result-end-2
+part-result-end-2 c =
+    let f = fits (c .before .before) in
+    omega (arith, row-end f, f .open-room)
+
+returns-2 : tie.Need-returns-2
+returns-2 c =
+    let t = c .before .before .before .before in
+    let a = t .before .args in
+    subst (λ w. take (a .x * a .n + a .n - a .x * a .n) (drop (a .x * a .n) (chosen (a .strict .now) (a .«open» .now) w)) ≡ rowOf (a .strict .now) (a .«open» .now) (a .n) (a .x) (a .which))
+    (c .before .enum-told .given .1)
+    (row-is (a .strict .now) (a .«open» .now) (a .n) (a .x) (a .which) (t .has-row .result) (t .has-row .ensures) (c .before .before .before .if1 .left))
+
+returns-3 : tie.Need-returns-3
+returns-3 c =
+    let t = c .before .before .before .before in
+    let a = t .before .args in
+    subst (λ w. take (a .x * a .n + a .n - a .x * a .n) (drop (a .x * a .n) (chosen (a .strict .now) (a .«open» .now) w)) ≡ rowOf (a .strict .now) (a .«open» .now) (a .n) (a .x) (a .which))
+    (c .before .enum-told2 .given .1)
+    (row-is (a .strict .now) (a .«open» .now) (a .n) (a .x) (a .which) (t .has-row .result) (t .has-row .ensures) (c .before .before .before .if1 .left))
+
+pub row-spec : {M : Type 1} → statement M
+row-spec =
+    tie.close
+    (tie.spec
+    has-row-requires
+    slice-aggregate-result
+    returns
+    mul-from
+    add-to
+    enum-told
+    mul-result
+    sub-result
+    part-result-start
+    part-result-end
+    enum-told-2
+    mul-result-2
+    sub-result-2
+    part-result-start-2
+    part-result-end-2
+    returns-2
+    returns-3)

@@ -1,0 +1,26 @@
+// The calls as C calls them (include/post.h). An answer passes as one 64-bit number.
+ghost use mathlib.Core.Path.{_≡_};
+ghost use Rattle.rules.specs.Plan.{version1};
+ghost use Rattle.rules.specs.Calls.{Checked};
+ghost use Rattle.plan.specs.Layout.{planOf};
+ghost use Rattle.plan.specs.File.{fileAnswer};
+ghost use Rattle.post.specs.Faces.{packedOf, Packed};
+use crate::check;
+use answers::code;
+use answers::place;
+use rules::Answer;
+
+// The number of an answer: the code in the low 32 bits, the place in the high 32.
+pub fn packed(a: Answer) -> u64
+    ensures { λ r. ⌜ r ≡ packedOf a ⌝ }
+{
+    (code(a) as u64) + 4294967296 * (place(a) as u64)
+}
+
+// Check.
+#[no_mangle]
+pub extern "C" fn post_check(file: &[u8], strict: &[i32], open: &[i32]) -> u64
+    ensures { λ r. ⌜ Packed (Checked version1 (fileAnswer (now (file .entry))) (planOf (now (file .entry))) (now (strict .entry)) (now («open» .entry))) r ⌝ }
+{
+    packed(check(file, strict, open))
+}

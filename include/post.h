@@ -1,0 +1,85 @@
+/*
+ * post.h: an alarm post checks for itself what it was sent.
+ *
+ * The archive libpost.a is for x86-64 Linux (System V calling convention) and links only into programs for it. It needs no heap, no
+ * thread, no file and no set-up, and it holds no state: a call's answer follows from what is lent to it and from nothing else, and
+ * calls may run at the same time. Every call is proved to end and to answer as below for every input that keeps to "What is lent".
+ *
+ * WHAT IS LENT. A slice is a pointer and a length, and the length counts elements, not bytes. You lend it for the time of the call: the
+ * call keeps no pointer, reads nothing outside the slices, and writes nothing unless this file says so at that call. On your side:
+ *   - the pointer is not NULL and is aligned for its type (4 bytes for int32_t), also where the length is 0;
+ *   - all the elements it promises are there and have been written once;
+ *   - nobody writes them while the call runs. Slices that are only read may overlap.
+ *
+ * A PLAN FILE is bytes as they came: little-endian 32-bit fields, a header of 24 bytes, then the limits, then the links. It is read where it
+ * lies, at any alignment, and is never copied. The largest has 12,824 bytes. Any bytes may be lent: what is not a plan file is refused
+ * with its code.
+ *
+ * A TABLE has n x n cells of int32_t for a plan of n points, in rows: the cell from x to y stands at x * n + y. A cell is a number of
+ * seconds, or POST_MARK where there is no path. A slice may be longer than n x n; the cells beyond are not read.
+ *
+ * ROW ACCESS is an index. Row x of a table of n points is
+ *
+ *     const int32_t *row = table + (size_t)x * n;       // n cells, row[y] is the cell from x to y
+ *
+ * where n is 1 to 64, x is below n, and both tables have at least n x n cells; otherwise there is no row.
+ */
+#ifndef POST_H
+#define POST_H
+
+#include <stddef.h>
+#include <stdint.h>
+
+#ifdef __cplusplus
+extern "C" {
+#endif
+
+/* "No path": larger than every number. */
+#define POST_MARK INT32_MAX
+
+/* Every other cell of tables that are accepted lies from -POST_REACH to POST_REACH. */
+#define POST_REACH 63000000
+
+/*
+ * An answer is one 64-bit number: the code in the low 32 bits, the place in the high 32. The place is 0 unless it is named here. Where several
+ * codes would fit, the order is: 1 to 5; 6, by the limits' order in the file; then by the links' order 7 and 8 of each link; 9; 10; 11 and 12.
+ */
+enum post_code {
+    POST_DONE = 0,             /* done, or accepted */
+    POST_FEW_BYTES = 1,        /* the file has fewer than 24 bytes */
+    POST_BAD_VERSION = 2,      /* the file's version is not 1 */
+    POST_BAD_POINTS = 3,       /* the number of points is not 1 to 64 */
+    POST_BAD_COUNTS = 4,       /* more than 1,024 limits or more than 32 links */
+    POST_BAD_LAYOUT = 5,       /* an offset or the file's length is not as laid down */
+    POST_BAD_LIMIT = 6,        /* a limit out of range; place: index of the first */
+    POST_BAD_LINK = 7,         /* a link out of range; place: its index */
+    POST_REPEATED_LINK = 8,    /* a link repeats an earlier one's contingent point; place: the later index */
+    POST_SHORT_ROOM = 9,       /* a lent slice is shorter than needed: n x n cells in each table */
+    POST_HAS_LINKS = 10,       /* not given by any call declared here */
+    POST_NOT_CONTROLLABLE = 11, /* not given by any call declared here: post_check gives 12 instead */
+    POST_NOT_CLOSED = 12       /* the tables are not closed for the plan: do not use them */
+};
+
+static inline uint32_t post_code_of(uint64_t answer) { return (uint32_t)answer; }
+static inline uint32_t post_place_of(uint64_t answer) { return (uint32_t)(answer >> 32); }
+
+/*
+ * Check: whether two tables that somebody sent are closed for a plan file.
+ *
+ *   0        accepted. The tables are closed for the plan: no cell promises more than the plan's limits and links allow, so no way through
+ *            the plan can be worse than its cell says. Such tables exist only for a plan that can be carried out however long each
+ *            download and restart takes within its bounds.
+ *   1 to 8   the file is refused; the tables were not looked at
+ *   9        a table has fewer than n x n cells
+ *   12       the tables are not closed. Tables for a plan that cannot be carried out are always refused so.
+ *
+ * Lent: the file (file_len bytes), the strict table (strict_len cells), the open table (open_len cells). Nothing is written.
+ * Time: at most about 2 x n x n x n additions and comparisons, half a million for 64 points; it stops at the first cell that is wrong.
+ */
+uint64_t post_check(const uint8_t *file, size_t file_len, const int32_t *strict, size_t strict_len, const int32_t *open, size_t open_len);
+
+#ifdef __cplusplus
+}
+#endif
+
+#endif
