@@ -33,10 +33,10 @@ module _ (s : List ℕ) (a : Answer) (e : a ≡ fileAnswer s) (b : Bool) (t : b 
   file-refused strict weak n =
       subst⁻¹ (Checked version1 (fileAnswer s) (planOf s) strict weak) e
       (calls.Checked.bad-file
-      (λ d. true≢false (sym (ap (λ (x : Answer). eqb (codeOf x) 0) (e ∙ d)) ∙ failed b t n)))
+      (λ d. true≢false (sym (ap (λ (x : Answer). eqb (codeOf x) 0) (e ∙ d)) ∙ failed t n)))
 
   pub file-done : not b ≡ false → fileAnswer s ≡ Done
-  file-done n = sym e ∙ code-zero a (passed b t n)
+  file-done n = sym e ∙ code-zero a (passed t n)
 
 -- the header that was read, and the rest of Check's answers
 module _ (s : List ℕ) (d : fileAnswer s ≡ Done) (h : Header) (e : h ≡ headOf s) where

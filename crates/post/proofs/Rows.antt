@@ -59,11 +59,11 @@ square-small f = square-le (f .few)
 pub no-row : (strict weak : List ℤ) (n x : ℕ) (which : Side) (b : Bool) → b ≡ hasRow (length strict) (length weak) n x → not b ≡ true
     → [] ≡ rowOf strict weak n x which
 unfolding rowOf
-no-row strict weak n x which b e t = rw (failed b e t)
+no-row strict weak n x which b e t = rw (failed e t)
 
 pub row-is : (strict weak : List ℤ) (n x : ℕ) (which : Side) (b : Bool) → b ≡ hasRow (length strict) (length weak) n x → not b ≡ false
     → take (x * n + n - x * n) (drop (x * n) (chosen strict weak which)) ≡ rowOf strict weak n x which
 unfolding rowOf
 row-is strict weak n x which b e t =
     let w : x * n + n - x * n ≡ n = omega arith in
-    rw (passed b e t, w)
+    rw (passed e t, w)

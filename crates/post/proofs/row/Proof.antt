@@ -26,7 +26,7 @@ returns c =
 fits : (c : tie.Else1) → let a = c .before .before .args in Fitting (length (a .strict .now)) (length (a .«open» .now)) (a .n) (a .x)
 fits c =
     let a = c .before .before .args in
-    fitting (length (a .strict .now)) (length (a .«open» .now)) (a .n) (a .x) (passed (c .before .has-row .result) (c .before .has-row .ensures) (c .if1 .left))
+    fitting (length (a .strict .now)) (length (a .«open» .now)) (a .n) (a .x) (passed (c .before .has-row .ensures) (c .if1 .left))
 
 mul-from : tie.Need-mul-from
 mul-from c = omega (arith, row-end (fits c), square-small (fits c))
