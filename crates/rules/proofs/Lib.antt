@@ -13,5 +13,6 @@ pub mod Settled
 pub mod CellLimits
 pub mod Additions
 pub mod Demands
+pub mod Times
 pub mod Lists
 pub mod OneAnswer

@@ -121,7 +121,7 @@ module _ (r : Ranges) (file : Answer) (p : Plan) (g : file ≡ Done → InRange 
   short-or-times times (inr s) q l = absurd (omega arith)
 
   -- the strict cell from a point to the start is a number, since there is a start edge
-  start-number : {strict weak : Table} → Tables p strict weak → Pointed p → (x : ℕ) → x < p .points → (c : ℤ) × (strict x zero ≡ num c)
+  pub start-number : {strict weak : Table} → Tables p strict weak → Pointed p → (x : ℕ) → x < p .points → (c : ℤ) × (strict x zero ≡ num c)
   start-number {strict} {weak} t h x hx = by (strict x zero) refl (t .strict-least x zero hx (h .some-point))
     where
       by : (c : Cell) → strict x zero ≡ c → Least (Derivable p) x zero c → (c : ℤ) × (strict x zero ≡ num c)
