@@ -13,3 +13,4 @@ pub mod Links
 pub mod Starts
 pub mod Sounds
 pub mod Seen
+pub mod Standing

@@ -4,12 +4,14 @@ mod joins;
 mod looks;
 mod lowers;
 mod opening;
+mod settling;
 mod starting;
 mod sweep;
 mod uppers;
 
 pub use looks::fair;
 pub use looks::height_all;
+pub use settling::settle;
 pub use starting::first_open;
 pub use starting::first_strict;
 pub use starting::mark_all;
