@@ -14,3 +14,4 @@ pub mod Starts
 pub mod Sounds
 pub mod Seen
 pub mod Standing
+pub mod Minus

@@ -7,6 +7,7 @@ mod opening;
 mod settling;
 mod starting;
 mod sweep;
+mod timing;
 mod uppers;
 
 pub use looks::fair;
@@ -17,6 +18,7 @@ pub use starting::first_strict;
 pub use starting::mark_all;
 pub use sweep::sweep_open;
 pub use sweep::sweep_strict;
+pub use timing::times_all;
 ghost use mathlib.Core.Path.{_≡_};
 ghost use Prim.Native.Nat.{_+_, _*_, _≤_, _<_};
 ghost use lib.ListN.{length, getD, set};
