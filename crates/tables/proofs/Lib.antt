@@ -12,3 +12,6 @@ pub mod Ready
 pub mod Links
 pub mod Starts
 pub mod Sounds
+pub mod Seen
+pub mod Standing
+pub mod Minus

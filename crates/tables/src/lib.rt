@@ -1,17 +1,24 @@
 // Two lent tables: the sweep that lowers them to the least totals. What each function computes is said by the functions of lists in specs/Sweep.antt.
 // Here one cell: read, written, and lowered.
 mod joins;
+mod looks;
 mod lowers;
 mod opening;
+mod settling;
 mod starting;
 mod sweep;
+mod timing;
 mod uppers;
 
+pub use looks::fair;
+pub use looks::height_all;
+pub use settling::settle;
 pub use starting::first_open;
 pub use starting::first_strict;
 pub use starting::mark_all;
 pub use sweep::sweep_open;
 pub use sweep::sweep_strict;
+pub use timing::times_all;
 ghost use mathlib.Core.Path.{_≡_};
 ghost use Prim.Native.Nat.{_+_, _*_, _≤_, _<_};
 ghost use lib.ListN.{length, getD, set};
