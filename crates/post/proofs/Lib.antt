@@ -1,4 +1,5 @@
 -- Laws behind the calls, and what their statements rule out.
 pub mod Checks
+pub mod Judges
 pub mod Rows
 pub mod Ruled

@@ -1,3 +1,4 @@
 -- The calls' statements beyond the rule paper's own (specs/Calls.antt of `rules`).
+pub mod Lent
 pub mod Row
 pub mod Faces

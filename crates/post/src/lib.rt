@@ -1,5 +1,6 @@
 // The calls of a post. Each is total: it takes any bytes and any slices, and its statement fixes its answer for all of them.
 mod faces;
+mod judging;
 
 ghost use mathlib.Core.Path.{_≡_};
 ghost use Rattle.rules.specs.Plan.{version1};
@@ -10,6 +11,7 @@ ghost use Rattle.post.specs.Row.{hasRow, rowOf};
 use answers::accepted;
 use closed::closed;
 pub use faces::post_check;
+pub use judging::judge;
 use plan::head;
 use plan::sound;
 use rules::Answer;
