@@ -43,7 +43,7 @@ earliest-is-earliest s strict weak times strict′ weak′ times′ x =
     earliest-times (planOf s) (d .no-links) (tableOf version1 (planOf s .points) strict′) (tableOf version1 (planOf s .points) weak′)
     (in-range-pointed g) (d .written .tables) (λ x. getD times′ x (pos zero))
     (λ x hx.
-      let c : (c : ℤ) × (tableOf version1 (planOf s .points) strict′ x zero ≡ num c) =
-        start-number version1 (fileAnswer s) (planOf s) (λ e. good s e .ranges) (d .written .tables) (in-range-pointed g) x hx in
-      let e : getD times′ x (pos zero) ≡ negℤ (c .0) = d .written-times .minus-cell x hx (c .0) (c .1) in
-      c .1 ∙ ap num (sym (ap negℤ e ∙ negℤ-negℤ (c .0))))
+    let c : (c : ℤ) × (tableOf version1 (planOf s .points) strict′ x zero ≡ num c) =
+    start-number version1 (fileAnswer s) (planOf s) (λ e. good s e .ranges) (d .written .tables) (in-range-pointed g) x hx in
+    let e : getD times′ x (pos zero) ≡ negℤ (c .0) = d .written-times .minus-cell x hx (c .0) (c .1) in
+    c .1 ∙ ap num (sym (ap negℤ e ∙ negℤ-negℤ (c .0))))

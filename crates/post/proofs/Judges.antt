@@ -85,7 +85,8 @@ ready-of s d h e =
       sound = d;
       points = ap (λ (x : Header). x .points) e;
       limits = ap (λ (x : Header). x .limits) e;
-      links = ap (λ (x : Header). x .links) e }
+      links = ap (λ (x : Header). x .links) e;
+    }
 
 -- ---- the work
 
@@ -98,25 +99,27 @@ module _ (s : List ℕ) (n m k : ℕ) (r : Ready s n m k) (strict weak : List �
 
   -- the plan's tables were written
   pub judged-written : (strict′ weak′ : List ℤ) → Written version1 (planOf s) strict weak strict′ weak′
-    → Judged version1 (fileAnswer s) (planOf s) strict weak Done strict′ weak′
+      → Judged version1 (fileAnswer s) (planOf s) strict weak Done strict′ weak′
   judged-written strict′ weak′ w = calls.Judged.judged (r .sound) ready-room w
 
   filled : (t u v : List ℤ) → Kept (planOf s .points * planOf s .points) t u → n * n ≤ length u → v ≡ markAll version1 (n * n) u
-    → Filled (planOf s .points * planOf s .points) (pos (version1 .mark)) t v
+      → Filled (planOf s .points * planOf s .points) (pos (version1 .mark)) t v
   filled t u v q l e =
       let a : AllMark version1 (n * n) u (markAll version1 (n * n) u) = marks version1 (n * n) u l in
       subst⁻¹ (λ (x : ℕ). Filled x (pos (version1 .mark)) t v) cells
       (subst⁻¹ (λ (x : List ℤ). Filled (n * n) (pos (version1 .mark)) t x) e
       (record {
         kept = kept-trans (subst (λ (x : ℕ). Kept x t u) cells q) (marks-kept a);
-        all-same = a .all }))
+        all-same = a .all;
+      }))
 
   -- the plan was refused, and both tables were marked
   pub judged-refused : (strict′ weak′ strict″ weak″ : List ℤ) → Refused (planOf s) strict weak strict′ weak′
-    → strict″ ≡ markAll version1 (n * n) strict′ → weak″ ≡ markAll version1 (n * n) weak′
-    → Judged version1 (fileAnswer s) (planOf s) strict weak NotControllable strict″ weak″
+      → strict″ ≡ markAll version1 (n * n) strict′ → weak″ ≡ markAll version1 (n * n) weak′
+      → Judged version1 (fileAnswer s) (planOf s) strict weak NotControllable strict″ weak″
   judged-refused strict′ weak′ strict″ weak″ f es ew =
       calls.Judged.uncontrollable (r .sound) ready-room (f .uncontrollable)
       (record {
         strict-marked = filled strict strict′ strict″ (f .strict-kept) (omega (arith, f .strict-kept .length-same)) es;
-        open-marked = filled weak weak′ weak″ (f .open-kept) (omega (arith, f .open-kept .length-same)) ew })
+        open-marked = filled weak weak′ weak″ (f .open-kept) (omega (arith, f .open-kept .length-same)) ew;
+      })

@@ -36,7 +36,14 @@ pub fn lent(file: &[u8], strict: usize, open: usize) -> Answer
 }
 
 // Judge of a sound file with room: the plan's tables, or the mark in every cell of both.
-pub fn judge_sound(file: &[u8], n: usize, m: u32, k: u32, strict: &mut [i32], open: &mut [i32]) -> Answer
+pub fn judge_sound(
+    file: &[u8],
+    n: usize,
+    m: u32,
+    k: u32,
+    strict: &mut [i32],
+    open: &mut [i32],
+) -> Answer
     requires { ⌜ Ready (now file) n m k × (n * n ≤ length (now strict)) × (n * n ≤ length (now «open»)) ⌝ }
     ensures { λ r. ⌜ Judged version1 (fileAnswer (now (file .entry))) (planOf (now (file .entry))) (now (strict .entry)) (now («open» .entry)) r (now (strict .exit)) (now («open» .exit)) ⌝ }
 {

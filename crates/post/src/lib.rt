@@ -1,6 +1,7 @@
 // The calls of a post. Each is total: it takes any bytes and any slices, and its statement fixes its answer for all of them.
 mod faces;
 mod judging;
+mod timing;
 
 ghost use mathlib.Core.Path.{_≡_};
 ghost use Rattle.rules.specs.Plan.{version1};
@@ -15,6 +16,7 @@ pub use judging::judge;
 use plan::head;
 use plan::sound;
 use rules::Answer;
+pub use timing::earliest;
 
 // Which of two tables.
 pub enum Side {

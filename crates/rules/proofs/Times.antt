@@ -40,7 +40,7 @@ module _ (p : Plan) (none : p .links ≡ []) where
 
   -- minus the strict cells to the start are the earliest times
   pub earliest-times : (strict weak : Table) → Pointed p → Tables p strict weak → (t : Timetable)
-    → ((x : ℕ) → x < p .points → strict x zero ≡ num (negℤ (t x))) → EarliestTimes p t
+      → ((x : ℕ) → x < p .points → strict x zero ≡ num (negℤ (t x))) → EarliestTimes p t
   earliest-times strict weak g tables t is = record { meets = record { limit = limit; start = start; none-before = before }; earliest = early }
     where
       -- the walk to the start, whose total is minus the time
@@ -52,14 +52,14 @@ module _ (p : Plan) (none : p .links ≡ []) where
           let hf = g .limit-from m h in
           let ht = g .limit-to m h in
           let below : negℤ (t (m .from)) ≤ℤ (m .weight +ℤ negℤ (t (m .to))) =
-            to-start (m .from) hf .1 (m .weight +ℤ negℤ (t (m .to))) (step (edges.given (edges.limit h)) (to-start (m .to) ht .0)) in
+          to-start (m .from) hf .1 (m .weight +ℤ negℤ (t (m .to))) (step (edges.given (edges.limit h)) (to-start (m .to) ht .0)) in
           omega
           (ints, neg (t (m .from)), neg (t (m .to)), plus (m .weight) (negℤ (t (m .to))), plus (t (m .from)) (m .weight))
 
       start : t zero ≡ pos zero
       start =
           let e : num (negℤ (t zero)) ≡ num (pos zero) =
-            least-diagonal (Derivable p) zero (num (negℤ (t zero))) (to-start zero (g .some-point)) in
+          least-diagonal (Derivable p) zero (num (negℤ (t zero))) (to-start zero (g .some-point)) in
           omega (ints, same-number e, neg (t zero))
 
       before : (x : ℕ) → x < p .points → pos zero ≤ℤ t x

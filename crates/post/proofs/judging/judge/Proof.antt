@@ -32,7 +32,7 @@ judge-sound-requires c κs =
     let accepted = c .before .before .before .before .before .accepted in
     let enough = lent-enough (lent .ensures) (is-accepted (lent .result) (accepted .result) (accepted .ensures) (c .before .before .before .before .if1 .left)) in
     let cells =
-      enough-cells (s .args .file .now) (enough .sound) (head .result) (head .ensures) (length (s .args .strict .now)) (length (s .args .«open» .now)) enough in
+    enough-cells (s .args .file .now) (enough .sound) (head .result) (head .ensures) (length (s .args .strict .now)) (length (s .args .«open» .now)) enough in
     (ready-of (s .args .file .now) (enough .sound) (head .result) (head .ensures), cells .0, cells .1)
 
 same-length : tie.Need-same-length

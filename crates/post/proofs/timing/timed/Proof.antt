@@ -1,0 +1,76 @@
+-- `timing::timed` meets its contract: Judge's refusal, or the times of the tables that it wrote. Assumes nothing.
+use borrow.Author.Needs.{needs}
+use Prim.Native.Nat.{_≤_}
+use Rattle.rules.specs.Plan.{version1}
+use Rattle.tables.proofs.Ready.{ready-few}
+use Rattle.post.proofs.Judges.{not-accepted, is-accepted}
+use Rattle.post.proofs.Times.{refused-timed, written-of, written-sound, timed-done}
+use Rattle.post.proofs.timing.timed.Statement.{statement}
+use Rattle.post.proofs.timing.timed.Tie as tie
+
+judge-sound-requires : tie.Need-judge-sound-requires
+judge-sound-requires c κs = search needs
+
+accepted-requires : tie.Need-accepted-requires
+accepted-requires c κs = search needs
+
+same-length : tie.Need-same-length
+same-length c = search needs
+
+same-length-2 : tie.Need-same-length-2
+same-length-2 c = search needs
+
+returns : tie.Need-returns
+returns c =
+    let s = c .before .before .before .before .before .before .before .before in
+    let judged = c .before .before .before .before .judge-sound in
+    let accepted = c .before .accepted in
+    refused-timed (s .args .file .now) (s .args .n) (s .args .m) (s .pre .0) (s .args .strict .now) (s .args .«open» .now) (s .args .times .now) (s .pre .1) (s .pre .2) (s .pre .3)
+    (judged .ensures) (not-accepted (judged .result) (accepted .result) (accepted .ensures) (c .if1 .taken))
+
+times-all-requires : tie.Need-times-all-requires
+unfolding version1
+times-all-requires c κs =
+    let s = c .before .before .before .before .before .before .before .before .before .before in
+    let judged = c .before .before .before .before .before .before .judge-sound in
+    let accepted = c .before .before .before .accepted in
+    let few : s .args .n ≤ version1 .points = ready-few (s .args .file .now) (s .args .n) (s .args .m) 0 (s .pre .0) in
+    (few,
+      written-sound (s .args .file .now) (s .args .n) (s .args .m) (s .pre .0) (s .args .strict .now) (s .args .«open» .now) (s .args .times .now) (s .pre .1) (s .pre .2) (s .pre .3)
+      (written-of (s .args .file .now) (s .args .n) (s .args .m) (s .pre .0) (s .args .strict .now) (s .args .«open» .now) (s .args .times .now) (s .pre .1) (s .pre .2) (s .pre .3)
+        (judged .ensures) (is-accepted (judged .result) (accepted .result) (accepted .ensures) (c .before .before .if1 .left))),
+      s .pre .3)
+
+same-length-3 : tie.Need-same-length-3
+same-length-3 c = search needs
+
+same-length-4 : tie.Need-same-length-4
+same-length-4 c = search needs
+
+same-length-5 : tie.Need-same-length-5
+same-length-5 c = search needs
+
+returns-2 : tie.Need-returns-2
+returns-2 c =
+    let s = c .before .before .before .before .before .before .before .before .before .before .before .before in
+    let judged = c .before .before .before .before .before .before .before .before .judge-sound in
+    let accepted = c .before .before .before .before .before .accepted in
+    timed-done (s .args .file .now) (s .args .n) (s .args .m) (s .pre .0) (s .args .strict .now) (s .args .«open» .now) (s .args .times .now) (s .pre .1) (s .pre .2) (s .pre .3)
+    (written-of (s .args .file .now) (s .args .n) (s .args .m) (s .pre .0) (s .args .strict .now) (s .args .«open» .now) (s .args .times .now) (s .pre .1) (s .pre .2) (s .pre .3)
+      (judged .ensures) (is-accepted (judged .result) (accepted .result) (accepted .ensures) (c .before .before .before .before .if1 .left)))
+    (c .before .times-all .ensures)
+
+pub timed-spec : {M : Type 1} → statement M
+timed-spec =
+    tie.close
+    (tie.spec
+    judge-sound-requires
+    accepted-requires
+    same-length
+    same-length-2
+    returns
+    times-all-requires
+    same-length-3
+    same-length-4
+    same-length-5
+    returns-2)
