@@ -1,16 +1,19 @@
--- What Check's statement rules out, and that it fixes the answer. Assumes nothing.
+-- What the statements of Check and row access rule out, and that each fixes its answer. Assumes nothing.
 use mathlib.Core.Path.{_≡_, sym, ap, _∙_}
 use mathlib.Core.Logic.{_≢_}
 use mathlib.Core.List.{List}
-use Prim.Native.Nat.{ℕ}
+use mathlib.Core.Bool.{true}
+use Prim.Native.Nat.{ℕ, _+_, _*_, _≤_, _<_}
 use native.Mathlib.Omega.{arith}
-use lib.IntN.{ℤ}
+use lib.ListN.{length, getD, drop, length-drop}
+use lib.Seq.{length-take-le, getD-take, getD-drop}
+use lib.IntN.{ℤ, pos}
 use borrow.Author.Tests.{eq-eqb}
 use Rattle.rules.specs.Plan.{Plan, Ranges, version1}
 use Rattle.rules.specs.Answers.{codeOf}
 use Rattle.rules.specs.Cells.{tableOf}
 use Rattle.rules.specs.Walks.{Uncontrollable}
-use Rattle.rules.specs.Tables.{Closed}
+use Rattle.rules.specs.Tables.{Tables, Closed}
 use Rattle.rules.specs.Calls as calls
 use Rattle.rules.specs.Calls.{Checked}
 use Rattle.rules.specs.declared.Answer.{Answer}
@@ -18,11 +21,16 @@ use Rattle.rules.specs.declared.Answer.the-variants.{Done}
 use Rattle.rules.proofs.Bound.{closed-controllable}
 use Rattle.rules.proofs.Points.{in-range-pointed}
 use Rattle.rules.proofs.OneAnswer.{checked-once}
+use Rattle.rules.proofs.Demands.{version1-coherent, demand2-of-plans}
 use Rattle.answers.proofs.Codes.{code-zero}
 use Rattle.plan.specs.Layout.{planOf}
 use Rattle.plan.specs.File.{fileAnswer}
 use Rattle.plan.proofs.Good.{good}
+use Rattle.post.specs.declared.Side.{Side}
+use Rattle.post.specs.declared.Side.the-variants.{Strict, Open}
+use Rattle.post.specs.Row.{chosen, hasRow, rowOf}
 use Rattle.post.specs.Faces.{packedOf, Packed}
+use Rattle.post.proofs.Rows.{fitting, row-end}
 
 -- what code 0 says: the file is sound, and the tables are closed
 pub record Accepted (r : Ranges) (file : Answer) (p : Plan) (strict weak : List ℤ) : Type 0 where
@@ -54,3 +62,32 @@ pub packed-once : (s : List ℕ) (strict weak : List ℤ) (v w : ℕ) → Packed
     → Packed (Checked version1 (fileAnswer s) (planOf s) strict weak) w → v ≡ w
 packed-once s strict weak v w c d =
     c .is ∙ ap packedOf (check-once s strict weak (c .answer) (d .answer) (c .meets) (d .meets)) ∙ sym (d .is)
+
+-- the tables of a sound file's plan are accepted, where there is room for them: a Check that refuses everything does not meet the statement
+pub tables-accepted : (s : List ℕ) (strict weak : List ℤ) (a : Answer) → fileAnswer s ≡ Done → calls.RoomForTables (planOf s) strict weak
+    → Tables (planOf s) (tableOf version1 (planOf s .points) strict) (tableOf version1 (planOf s .points) weak)
+    → Checked version1 (fileAnswer s) (planOf s) strict weak a → a ≡ Done
+tables-accepted s strict weak a d q t c =
+    let k : Closed version1 (planOf s) (tableOf version1 (planOf s .points) strict) (tableOf version1 (planOf s .points) weak) =
+    demand2-of-plans version1 version1-coherent .tables-are-closed (planOf s) (tableOf version1 (planOf s .points) strict)
+    (tableOf version1 (planOf s .points) weak) (good s d .ranges) t in
+    check-once s strict weak a Done c (calls.Checked.closed d q k)
+
+-- two parts that meet row access's statement are equal
+pub row-once : (strict weak : List ℤ) (n x : ℕ) (which : Side) (a b : List ℤ) → a ≡ rowOf strict weak n x which → b ≡ rowOf strict weak n x which
+    → a ≡ b
+row-once strict weak n x which a b e f = e ∙ sym f
+
+-- where there is a row, it has n cells, and they are those of the chosen table from x to each point
+module _ (strict weak : List ℤ) (n x : ℕ) (which : Side) (e : hasRow (length strict) (length weak) n x ≡ true) where
+  long : (w : Side) → x * n + n ≤ length (chosen strict weak w)
+  long Strict = omega (arith, row-end (fitting (length strict) (length weak) n x e), fitting (length strict) (length weak) n x e .strict-room)
+  long Open = omega (arith, row-end (fitting (length strict) (length weak) n x e), fitting (length strict) (length weak) n x e .open-room)
+
+  pub row-length : length (rowOf strict weak n x which) ≡ n
+  unfolding rowOf
+  row-length = rw e (length-take-le n (drop (x * n) (chosen strict weak which)) (simp length-drop (omega (arith, long which))))
+
+  pub row-cell : (y : ℕ) → y < n → getD (rowOf strict weak n x which) y (pos 0) ≡ getD (chosen strict weak which) (x * n + y) (pos 0)
+  unfolding rowOf
+  row-cell y h = rw (e, getD-take, getD-drop)
