@@ -1,11 +1,13 @@
 // The calls as C calls them (include/post.h). An answer passes as one 64-bit number.
 ghost use mathlib.Core.Path.{_≡_};
 ghost use Rattle.rules.specs.Plan.{version1};
-ghost use Rattle.rules.specs.Calls.{Checked};
+ghost use Rattle.rules.specs.Calls.{Judged, Checked, Timed};
 ghost use Rattle.plan.specs.Layout.{planOf};
 ghost use Rattle.plan.specs.File.{fileAnswer};
 ghost use Rattle.post.specs.Faces.{packedOf, Packed};
 use crate::check;
+use crate::judging::judge;
+use crate::timing::earliest;
 use answers::code;
 use answers::place;
 use rules::Answer;
@@ -23,4 +25,20 @@ pub extern "C" fn post_check(file: &[u8], strict: &[i32], open: &[i32]) -> u64
     ensures { λ r. ⌜ Packed (Checked version1 (fileAnswer (now (file .entry))) (planOf (now (file .entry))) (now (strict .entry)) (now («open» .entry))) r ⌝ }
 {
     packed(check(file, strict, open))
+}
+
+// Judge.
+#[no_mangle]
+pub extern "C" fn post_judge(file: &[u8], strict: &mut [i32], open: &mut [i32]) -> u64
+    ensures { λ r. ⌜ Packed (λ a. Judged version1 (fileAnswer (now (file .entry))) (planOf (now (file .entry))) (now (strict .entry)) (now («open» .entry)) a (now (strict .exit)) (now («open» .exit))) r ⌝ }
+{
+    packed(judge(file, strict, open))
+}
+
+// Earliest.
+#[no_mangle]
+pub extern "C" fn post_earliest(file: &[u8], strict: &mut [i32], open: &mut [i32], times: &mut [i32]) -> u64
+    ensures { λ r. ⌜ Packed (λ a. Timed version1 (fileAnswer (now (file .entry))) (planOf (now (file .entry))) (now (strict .entry)) (now («open» .entry)) (now (times .entry)) a (now (strict .exit)) (now («open» .exit)) (now (times .exit))) r ⌝ }
+{
+    packed(earliest(file, strict, open, times))
 }

@@ -12,6 +12,8 @@ ghost use Rattle.post.specs.Row.{hasRow, rowOf};
 use answers::accepted;
 use closed::closed;
 pub use faces::post_check;
+pub use faces::post_earliest;
+pub use faces::post_judge;
 pub use judging::judge;
 use plan::head;
 use plan::sound;
