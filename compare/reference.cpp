@@ -119,9 +119,11 @@ struct Rounds {
               lowered(link, other, altered.without_lower ? none : strict[link.contingent * n + other.contingent], altered));
     const std::vector<Wide> &read_by_upper = altered.upper_reads_open ? open : strict;
     for (const Link &link : plan.links)
-      for (std::size_t p = 0; p < n; ++p)
-        offer(strict[p * n + link.activation],
-              uppered(link, altered.without_upper ? none : read_by_upper[p * n + link.contingent], altered));
+      for (std::size_t p = 0; p < n; ++p) {
+        // With -l the empty walk from C to C yields the given edge; without it the alteration should meet edges only, as the paper has it.
+        const bool skipped = altered.without_upper || (altered.upper_without_shortest && p == link.contingent);
+        if (!skipped) offer(strict[p * n + link.activation], uppered(link, read_by_upper[p * n + link.contingent], altered));
+      }
   }
 
   void open_from_strict() {
