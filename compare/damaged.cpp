@@ -21,7 +21,10 @@ std::uint32_t edge_number(Random &random, std::uint32_t now) {
     case 1: return now - 1;
     case 2: return std::uint32_t(random.next());
     case 3: return now ^ 1u << random.below(32);
-    default: return random.any_of(named) + random.below(3) - 1;
+    default: {
+      const std::uint32_t one = random.any_of(named);
+      return one + random.below(3) - 1;
+    }
   }
 }
 
@@ -37,7 +40,10 @@ void damage(Random &random, File &file, std::uint32_t n) {
     }
     case 2:  // a length
       if (random.one_in(2)) file.resize(random.below(std::uint32_t(file.size()) + 1));
-      else file.resize(file.size() + 1 + random.below(17), std::uint8_t(random.next()));
+      else {
+        const std::size_t longer = file.size() + 1 + random.below(17);
+        file.resize(longer, std::uint8_t(random.next()));
+      }
       break;
     case 3: {  // a count, with offsets and length as that count would have them
       const std::size_t at = random.one_in(2) ? 8 : 12;
@@ -50,7 +56,7 @@ void damage(Random &random, File &file, std::uint32_t n) {
     }
     case 4: case 5:  // a limit's field
       if (m > 0) {
-        const std::size_t at = 24 + 12 * random.below(std::uint32_t(m)) + 4 * random.below(3);
+        const std::size_t record = 24 + 12 * random.below(std::uint32_t(m)), at = record + 4 * random.below(3);
         set_field(file, at, random.one_in(3) ? n + random.below(3) - 1 : edge_number(random, field_at(file, at)));
       }
       break;
@@ -99,7 +105,7 @@ int main(int words, char **word) {
     File file = base_file(random, plan);
     for (std::uint32_t times = 1 + random.below(3); times > 0; --times) damage(random, file, plan.points);
     const Call call = static_cast<Call>(random.below(4));
-    Case lent = lend(random, call, file, random.one_in(10) ? 64 : plan.points);
+    Case lent = lend(random, call, file, random.one_in(40) ? 64 : plan.points);
     lent.added = random_limit(random, plan);
     if (random.one_in(4)) {
       auto &end = random.one_in(2) ? lent.added.from : lent.added.to;

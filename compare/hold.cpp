@@ -95,6 +95,7 @@ std::string said(std::uint64_t answer) { return std::to_string(code_of(answer)) 
 
 template <class Cell>
 std::string cells_differ(const char *name, const std::vector<Cell> &expected, const std::vector<Cell> &got) {
+  if (expected == got) return "";
   for (std::size_t i = 0; i < expected.size(); ++i)
     if (expected[i] != got[i])
       return std::string("cell ") + std::to_string(i) + " of the " + name + " is " + std::to_string(got[i]) + ", the reference has " +
@@ -208,11 +209,31 @@ struct Shrink {
           if (shorter.links[i].shortest < 1 || shorter.links[i].shortest >= shorter.links[i].longest) continue;
           if (take(shorter)) { plan = shorter, any = true; break; }
         }
+    any |= smaller_pairs();
     for (Wide weight : smaller_numbers(small.added.weight)) {
       Case lighter = small;
       lighter.added.weight = weight;
       if (take(lighter)) { any = true; break; }
     }
+    return any;
+  }
+
+  // A limit and a link's longest lowered by the same amount: what they say about each other stays.
+  bool smaller_pairs() {
+    bool any = false;
+    Plan plan = reading().plan;
+    if (plan.limits.size() > 12) return false;
+    for (std::size_t j = 0; j < plan.links.size(); ++j)
+      for (std::size_t i = 0; i < plan.limits.size(); ++i) {
+        const Wide room = Wide(plan.links[j].longest) - plan.links[j].shortest - 1;
+        for (Wide amount : {room, room / 2, room / 8, Wide(1)}) {
+          if (amount < 1 || amount > room || std::abs(plan.limits[i].weight - amount) >= std::abs(plan.limits[i].weight)) continue;
+          Plan lighter = plan;
+          lighter.limits[i].weight -= amount;
+          lighter.links[j].longest -= std::uint32_t(amount);
+          if (take(lighter)) { plan = lighter, any = true; break; }
+        }
+      }
     return any;
   }
 
@@ -240,8 +261,25 @@ struct Shrink {
     return shorter && take(exact);
   }
 
+  static void put(std::vector<std::uint8_t> &file, std::size_t at, std::uint32_t field) {
+    for (std::size_t i = 0; i < 4; ++i) file[at + i] = std::uint8_t(field >> (8 * i));
+  }
+
   bool simpler_bytes() {  // for a file that is refused
     bool any = false;
+    for (std::size_t at = 8; at <= 12; at += 4) {  // a record less, where counts, offsets and length agree
+      const std::size_t size = at == 8 ? 12 : 16;
+      for (std::size_t i = field_at(small.file, at); i > 0; --i) {
+        const std::size_t m = field_at(small.file, 8), k = field_at(small.file, 12);
+        const std::size_t begin = (at == 8 ? 24 : 24 + 12 * m) + size * (i - 1);
+        if (small.file.size() != 24 + 12 * m + 16 * k || begin + size > small.file.size()) break;
+        Case fewer = small;
+        fewer.file.erase(fewer.file.begin() + begin, fewer.file.begin() + begin + size);
+        put(fewer.file, at, field_at(fewer.file, at) - 1);
+        if (at == 8) put(fewer.file, 20, field_at(fewer.file, 20) - 12);
+        any |= take(fewer);
+      }
+    }
     for (std::size_t cut : {std::size_t(16), std::size_t(12), std::size_t(4), std::size_t(1)})
       while (small.file.size() >= cut) {
         Case shorter = small;
@@ -252,7 +290,7 @@ struct Shrink {
     for (std::size_t at = 0; at + 4 <= small.file.size(); at += 4)
       for (Wide number : smaller_numbers(field_at(small.file, at))) {
         Case simpler = small;
-        for (std::size_t i = 0; i < 4; ++i) simpler.file[at + i] = std::uint8_t(number >> (8 * i));
+        put(simpler.file, at, std::uint32_t(number));
         if (take(simpler)) { any = true; break; }
       }
     return any;
@@ -377,9 +415,10 @@ Case lend(Random &random, Call call, std::vector<std::uint8_t> file, std::size_t
       default: return random.one_in(2) ? random.below(std::uint32_t(needed) + 1) : needed + random.below(100);
     }
   };
-  const auto fill = [&](auto &cells, std::size_t length) {
+  const auto fill = [&](auto &cells, std::size_t length) {  // numbers of all sizes that differ from cell to cell
     cells.resize(length);
-    for (auto &cell : cells) cell = std::int32_t(random.next());
+    std::uint32_t number = std::uint32_t(random.next());
+    for (auto &cell : cells) cell = std::int32_t(number += 0x9e3779b9u);
   };
   fill(lent.strict, room(points * points));
   fill(lent.open, room(points * points));
@@ -393,8 +432,10 @@ void Tally::print() const {
   for (int code = 0; code < 13; ++code) std::printf(" %9d", code);
   std::printf("\n");
   for (Call call : {Call::judge, Call::check, Call::add, Call::earliest}) {
+    const auto &row = codes[std::size_t(call)];
+    if (std::all_of(row.begin(), row.end(), [](std::uint64_t times) { return times == 0; })) continue;
     std::printf("  %-22s", name_of(call));
-    for (int code = 0; code < 13; ++code) std::printf(" %9llu", static_cast<unsigned long long>(codes[std::size_t(call)][code]));
+    for (int code = 0; code < 13; ++code) std::printf(" %9llu", static_cast<unsigned long long>(row[code]));
     std::printf("\n");
   }
 }

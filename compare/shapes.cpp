@@ -1,4 +1,5 @@
-// How the shapes are drawn. Plain random weights give almost only refused plans, so most shapes start from a hidden timetable: a limit
+// How the shapes are drawn. No two numbers are drawn in one expression's arguments: compilers evaluate those in different orders, and plans
+// must be the same on every machine. Plain random weights give almost only refused plans, so most shapes start from a hidden timetable: a limit
 // X>Y w is drawn as the timetable's difference and a little slack, and links are given durations about their hidden one.
 #include "shapes.hpp"
 
@@ -122,14 +123,16 @@ struct Drawing {
     std::vector<Link> ring;
     for (std::uint32_t i = 0; i < length; ++i) {
       const std::size_t before = plan.links.size();
-      if (plan.points > 1) timed_link(point(), 1 + random.below(plan.points - 1));
+      const std::uint32_t activation = point();
+      if (plan.points > 1) timed_link(activation, 1 + random.below(plan.points - 1));
       if (plan.links.size() > before) ring.push_back(plan.links.back());
     }
     for (std::size_t i = 0; i < ring.size(); ++i) {
       const Link &here = ring[i], &next = ring[(i + 1) % ring.size()];
       if (random.one_in(4)) continue;
       const Wide spread = Wide(next.longest) - next.shortest;
-      limit(random.one_in(2) ? here.activation : here.contingent, next.contingent, spread + random.from_to(-2, 1));
+      const std::uint32_t from = random.one_in(2) ? here.activation : here.contingent;
+      limit(from, next.contingent, spread + random.from_to(-2, 1));
     }
   }
 
@@ -157,14 +160,23 @@ struct Drawing {
       if (forth) limit(x, x + 1, most_weight);
       if (back) limit(x + 1, x, random.one_in(60) ? -most_weight + 1 : -most_weight);
     }
-    for (std::uint32_t i = random.below(4); i > 0; --i) limit(point(), point(), random.one_in(2) ? most_weight : -most_weight);
+    for (std::uint32_t i = random.below(4); i > 0; --i) {
+      const std::uint32_t from = point(), to = point();
+      limit(from, to, random.one_in(2) ? most_weight : -most_weight);
+    }
   }
 
   void anything() {  // weights with no timetable behind them
     scale = random.one_in(4) ? most_weight / 2 : 1 + random.below(8);
-    for (std::uint32_t i = random.below(2 * plan.points + 1); i > 0; --i) limit(point(), point(), random.from_to(-2 * scale, 4 * scale));
-    for (std::uint32_t i = random.below(plan.points); i > 0; --i)
-      link(point(), point(), random.from_to(1, scale), random.from_to(1, 3 * scale));
+    for (std::uint32_t i = random.below(2 * plan.points + 1); i > 0; --i) {
+      const std::uint32_t from = point(), to = point();
+      limit(from, to, random.from_to(-2 * scale, 4 * scale));
+    }
+    for (std::uint32_t i = random.below(plan.points); i > 0; --i) {
+      const std::uint32_t activation = point(), end = point();
+      const Wide shortest = random.from_to(1, scale), longest = random.from_to(1, 3 * scale);
+      link(activation, end, shortest, longest);
+    }
   }
 
   // The plan of falling strict cells, under other names and numbers, with more beside it.
@@ -173,7 +185,8 @@ struct Drawing {
     if (plan.points < 4) return anything();
     const Wide shortest = random.from_to(1, 3), spread = random.from_to(2, 8);
     link(3, 2, shortest, shortest + spread);
-    link(0, 1, random.from_to(1, 3), random.from_to(4, 9));
+    const Wide other = random.from_to(1, 3);
+    link(0, 1, other, random.from_to(4, 9));
     limit(2, 3, -shortest - random.from_to(0, 4));
     timed_limits(random.below(3));
   }

@@ -297,10 +297,10 @@ std::uint64_t exhaust(bool long_pass) {
     for (std::uint32_t u = l + 1; u <= heaviest; ++u) spans.push_back({l, u});
   every_plan({}, 2, each);
   for (const auto &one : spans) every_plan({{0, 1, one.first, one.second}}, 2, each);
-  if (!long_pass) return plans;
   every_plan({}, 3, each);
   for (const auto &one : spans)
     for (std::uint32_t a : {0u, 2u}) every_plan({{a, 1, one.first, one.second}}, 3, each);
+  if (!long_pass) return plans;
   for (const auto &one : spans)
     for (const auto &two : spans)
       for (std::uint32_t a : {0u, 1u}) every_plan({{0, 1, one.first, one.second}, {a, 2, two.first, two.second}}, 3, each);
@@ -309,13 +309,13 @@ std::uint64_t exhaust(bool long_pass) {
 
 }  // namespace
 
-// Arguments as the other programs', and `exhaust short` or `exhaust long` for all plans of two, or two and three, points instead of random ones.
+// Arguments as the other programs'; or `exhaust short`, every plan of two and three points with at most one link; or `exhaust long`, with two as well.
 int main(int words, char **word) {
   if (words == 3 && !std::strcmp(word[1], "exhaust")) {
     const bool long_pass = !std::strcmp(word[2], "long");
     const std::uint64_t plans = exhaust(long_pass);
-    std::printf("strategies: every plan of %s points with numbers up to 4, %llu plans, no difference\n", long_pass ? "two and three" : "two",
-                figure(plans));
+    std::printf("strategies: every plan of two and three points with at most %s and numbers up to 4, up to names: %llu plans, no difference\n",
+                long_pass ? "two links" : "one link", figure(plans));
     return 0;
   }
   Budget budget(words, word, 20000);
