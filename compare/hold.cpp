@@ -12,6 +12,7 @@ namespace {
 
 constexpr std::size_t ground_size = 512 * 1024, fence = 64 * 1024;  // a multiple of every page size in use
 constexpr std::uint8_t sentinel = 0xa5;
+constexpr unsigned patience = 10;  // seconds; the largest plan takes a tenth of one under an emulator
 
 // A stretch of memory with a fence behind it. What is lent ends at the fence, or `past` elements before it.
 struct Ground {
@@ -334,8 +335,7 @@ void print_side(const char *name, const Case &left, std::uint64_t answer, std::s
   std::printf("\n");
 }
 
-[[noreturn]] void report(const Case &lent, const Budget &budget) {
-  const Outcome outcome = run_both(lent);
+[[noreturn]] void report(const Case &lent, const Outcome &outcome, const Budget &budget) {
   std::printf("DIFFERENCE in %s: %s\n", name_of(lent.call), outcome.difference.c_str());
   std::printf("  plan: %s\n", file_in_words(lent.file).c_str());
   if (lent.call == Call::add) std::printf("  added: %s\n", notation(lent.added).c_str());
@@ -345,7 +345,7 @@ void print_side(const char *name, const Case &left, std::uint64_t answer, std::s
   if (lent.call == Call::check || lent.call == Call::add)
     std::printf("  lent: strict %s, open %s\n", notation(lent.strict, points).c_str(), notation(lent.open, points).c_str());
   print_side("the reference", outcome.expected, outcome.wanted, points);
-  if (!outcome.left.file.empty() || lent.file.empty()) print_side("the library", outcome.left, outcome.got, points);
+  if (outcome.returned) print_side("the library", outcome.left, outcome.got, points);
   std::printf("  found with seed %llu in round %llu\n", static_cast<unsigned long long>(budget.seed),
               static_cast<unsigned long long>(budget.done));
   std::fflush(stdout);
@@ -367,17 +367,19 @@ Outcome run_both(const Case &lent) {
   const Lent<std::int32_t> strict(grounds[1], lent.strict, lent.past, "strict table"), open(grounds[2], lent.open, lent.past, "open table"),
       times(grounds[3], lent.times, lent.past, "times");
   const Lent<std::int64_t> scratch(grounds[4], lent.scratch, lent.past, "scratch");
-  alarm(300);
+  alarm(patience);
   if (const int number = sigsetjmp(back, 0)) {
     alarm(0);
-    outcome.difference = number == SIGALRM ? "it did not come back within five minutes"
-                                           : "it was stopped by signal " + std::to_string(number) + ", as a touch outside what it was lent is";
+    outcome.hung = number == SIGALRM;
+    outcome.difference = outcome.hung ? "it did not come back within " + std::to_string(patience) + " seconds"
+                                      : "it was stopped by signal " + std::to_string(number) + ", as a touch outside what it was lent is";
     return outcome;
   }
   inside = 1;
   outcome.got = run(linked_calls, lent, file.cells, strict.cells, open.cells, times.cells, scratch.cells);
   inside = 0;
   alarm(0);
+  outcome.returned = true;
 
   outcome.left = {lent.call, file.content(), lent.added, strict.content(), open.content(), times.content(), scratch.content(), lent.past};
   const Case &left = outcome.left;
@@ -395,8 +397,8 @@ std::uint64_t hold(Case &lent, const Budget &budget) {
   Outcome outcome = run_both(lent);
   if (!outcome.difference.empty()) {
     Shrink shrink{lent};
-    shrink.shrink();
-    report(shrink.small, budget);
+    if (!outcome.hung) shrink.shrink();  // else each try might cost all the patience
+    report(shrink.small, outcome.hung ? outcome : run_both(shrink.small), budget);
   }
   lent = std::move(outcome.left);
   return outcome.wanted;

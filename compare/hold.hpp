@@ -24,7 +24,8 @@ struct Case {
 struct Outcome {
   std::string difference;
   std::uint64_t wanted = 0, got = 0;
-  Case expected, left;  // `left` is empty where the linked call did not come back
+  bool returned = false, hung = false;  // neither: it was stopped by a signal
+  Case expected, left;                  // `left` is empty where the linked call did not return
 };
 Outcome run_both(const Case &lent);
 

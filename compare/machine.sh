@@ -5,7 +5,7 @@ here=$(cd "$(dirname "${BASH_SOURCE[0]}")" && pwd)
 root=$(dirname "$here")
 out=$root/target/compare
 library=${POST_LIBRARY:-$root/target/staticlib/libpost.a}
-flags=(-std=c++17 -O2 -Wall -Wextra)
+flags=(-std=c++17 "${OPTIMIZE:--O2}" -Wall -Wextra)
 fail() { echo "compare: $*" >&2; exit 2; }
 
 # need COMMAND PACKAGE: installs Debian's package if the command (or the file) is not there, and says so.

@@ -101,27 +101,29 @@ struct Tables {
     }
   }
 
+  // One row through one middle. Without branches, so that a compiler may take several cells at once: a step above `most` leads above the top
+  // (no path is such a step), and one below `least` is as good as one to the floor.
+  bool join_row(Cell *__restrict row, const Cell *__restrict along, Cell first) const {
+    const Cell most = top - first, least = floor - first;
+    Cell changed = 0;
+    for (std::size_t to = 0; to < n; ++to) {
+      const Cell step = std::max(along[to], least), old = row[to];
+      const Cell candidate = step > most ? none : first + step;
+      const Cell now = std::min(old, candidate);
+      changed |= now ^ old;
+      row[to] = now;
+    }
+    return changed != 0;
+  }
+
   bool joins(Cell *table) const {
     bool changed = false;
-    for (std::size_t middle = 0; middle < n; ++middle) {
-      const Cell *along = table + middle * n;
+    for (std::size_t middle = 0; middle < n; ++middle)
       for (std::size_t from = 0; from < n; ++from) {
-        Cell *row = table + from * n;
-        const Cell first = row[middle];
-        if (first == none || from == middle) continue;  // through itself a row changes only past a negative diagonal, which is looked for anyway
-        for (std::size_t to = 0; to < n; ++to) {
-          if (along[to] == none) continue;
-          Cell candidate = first + along[to];
-          if (candidate >= row[to] || candidate > top) continue;
-          if (candidate < floor) {
-            candidate = floor;
-            if (row[to] == floor) continue;
-          }
-          row[to] = candidate;
-          changed = true;
-        }
+        const Cell first = table[from * n + middle];
+        // A row through its own point changes only past a negative diagonal, and that is looked for anyway.
+        if (first != none && from != middle) changed |= join_row(table + from * n, table + middle * n, first);
       }
-    }
     return changed;
   }
 
@@ -177,6 +179,80 @@ struct Tables {
   }
 };
 
+// Another way to the same tables, measured beside the sweep: from empty tables each edge, given, lower-case, or lowered by Lower or Upper, is spread
+// through the table at once, row by row, as source document 004 does with an added limit. Between edges a table is closed under joins,
+// so an edge from a to b closes a negative walk exactly if it and the cell from b to a do, and no cell ever leaves its range.
+template <class Cell>
+struct SpreadTables : Tables<Cell> {
+  using Base = Tables<Cell>;
+  using Base::links, Base::n, Base::none, Base::open, Base::strict, Base::view;
+  const bool joins_first;  // one full pass of joins over the given edges in place of spreading each of them
+  bool negative = false, moved = false;
+
+  SpreadTables(const View &view, Cell *strict, Cell *open, Cell top, bool joins_first) : Base(view, strict, open, top), joins_first(joins_first) {}
+
+  void spread(Cell *table, std::size_t a, std::size_t b, Cell weight) {
+    if (negative || weight >= table[a * n + b]) return;
+    if (table[b * n + a] != none && weight + table[b * n + a] < 0) {
+      negative = true;
+      return;
+    }
+    for (std::size_t x = 0; x < n; ++x) {
+      const Cell to_a = table[x * n + a];
+      if (to_a != none && to_a + weight < table[x * n + b]) this->join_row(table + x * n, table + b * n, to_a + weight);
+    }
+  }
+
+  void derived(std::size_t a, std::size_t b, Cell weight) {
+    if (negative || weight >= strict[a * n + b]) return;
+    moved = true;
+    spread(strict, a, b, weight);
+    spread(open, a, b, weight);
+  }
+
+  void given() {
+    for (std::size_t x = 0; x < n; ++x) spread(strict, x, 0, 0);
+    for (std::size_t i = 0; i < view.m; ++i) {
+      const auto limit = view.limit(i);
+      spread(strict, limit.x, limit.y, limit.w);
+    }
+    for (std::size_t i = 0; i < view.k; ++i) spread(strict, links[i].a, links[i].c, links[i].u), spread(strict, links[i].c, links[i].a, -links[i].l);
+  }
+
+  void given_by_joins() {
+    for (std::size_t i = 0; i < view.m; ++i) {
+      const auto limit = view.limit(i);
+      this->offer(strict[limit.x * n + limit.y], limit.w);
+    }
+    this->start_and_link_edges();
+    this->joins(strict);
+    negative = this->negative_diagonal(strict);
+  }
+
+  bool settle() {
+    last_sweeps = 0;
+    this->start_empty();
+    if (joins_first) given_by_joins();
+    else given();
+    std::copy_n(strict, n * n, open);
+    for (std::size_t i = 0; i < view.k; ++i) spread(open, links[i].a, links[i].c, links[i].l);
+    for (moved = true; moved && !negative; ++last_sweeps) {
+      moved = false;
+      for (std::size_t i = 0; i < view.k; ++i)
+        for (std::size_t j = 0; j < view.k; ++j) {
+          const Cell edge = strict[links[i].c * n + links[j].c];
+          if (i != j && edge < links[j].u - links[j].l) derived(links[i].a, links[j].c, links[i].l + edge);
+        }
+      for (std::size_t i = 0; i < view.k; ++i)
+        for (std::size_t from = 0; from < n; ++from) {
+          const Cell edge = strict[from * n + links[i].c];
+          if (edge != none) derived(from, links[i].a, std::max<Cell>(edge - links[i].u, -links[i].l));
+        }
+    }
+    return !negative;
+  }
+};
+
 bool closed_table(const std::int32_t *table, std::size_t n) {
   constexpr std::int32_t none = Tables<std::int32_t>::none;
   for (std::size_t i = 0; i < n * n; ++i)
@@ -188,8 +264,9 @@ bool closed_table(const std::int32_t *table, std::size_t n) {
       const std::int32_t first = table[from * n + middle];
       if (first == none) continue;
       const std::int32_t *along = table + middle * n, *row = table + from * n;
-      for (std::size_t to = 0; to < n; ++to)
-        if (along[to] != none && first + along[to] < row[to]) return false;
+      bool above = false;
+      for (std::size_t to = 0; to < n; ++to) above |= row[to] > (along[to] == none ? none : first + along[to]);
+      if (above) return false;
     }
   return true;
 }
@@ -222,6 +299,12 @@ bool closed(const View &view, const std::int32_t *strict, const std::int32_t *op
   return true;
 }
 
+std::uint64_t refused_tables(const View &view, std::int32_t *strict, std::int32_t *open) {
+  std::fill_n(strict, view.n * view.n, Tables<std::int32_t>::none);
+  std::fill_n(open, view.n * view.n, Tables<std::int32_t>::none);
+  return 11;
+}
+
 // Judge on a sound file with room enough.
 std::uint64_t fill(const View &view, std::int32_t *strict, std::int32_t *open) {
   Tables<std::int32_t> tables(view, strict, open, top_of_file);
@@ -231,10 +314,7 @@ std::uint64_t fill(const View &view, std::int32_t *strict, std::int32_t *open) {
     tables.offer(strict[limit.x * view.n + limit.y], limit.w);
   }
   tables.start_and_link_edges();
-  if (tables.settle()) return 0;
-  std::fill_n(strict, view.n * view.n, tables.none);
-  std::fill_n(open, view.n * view.n, tables.none);
-  return 11;
+  return tables.settle() ? 0 : refused_tables(view, strict, open);
 }
 
 }  // namespace
@@ -256,6 +336,16 @@ std::uint64_t judge(const std::uint8_t *file, std::size_t file_len, std::int32_t
   if (const auto refused = open_file(view, file, file_len, nullptr)) return refused;
   if (std::min(strict_len, open_len) < view.n * view.n) return 9;
   return fill(view, strict, open);
+}
+
+std::uint64_t judge_by_spreading(const std::uint8_t *file, std::size_t file_len, std::int32_t *strict, std::size_t strict_len,
+                                 std::int32_t *open, std::size_t open_len, bool joins_first) {
+  View view;
+  last_sweeps = 0;
+  if (const auto refused = open_file(view, file, file_len, nullptr)) return refused;
+  if (std::min(strict_len, open_len) < view.n * view.n) return 9;
+  SpreadTables<std::int32_t> tables(view, strict, open, top_of_file, joins_first);
+  return tables.settle() ? 0 : refused_tables(view, strict, open);
 }
 
 std::uint64_t earliest(const std::uint8_t *file, std::size_t file_len, std::int32_t *strict, std::size_t strict_len, std::int32_t *open,
