@@ -144,25 +144,47 @@ double time_of(const Contestant &contestant, const std::vector<Prepared> &plans,
   return (microseconds_now() - began) / double(rounds) / double(plans.size());
 }
 
-// Times the contestants, the first being the measure of the others, and prints a line.
-void measure(const char *call, std::uint32_t n, std::uint32_t k, const std::vector<Contestant> &contestants, const std::vector<Prepared> &plans,
+// One table for each call, printed as Markdown at the end.
+struct Report {
+  std::string call, rows;
+  std::vector<std::string> names;
+};
+
+// Times the contestants, the first being the measure of the others, and adds a row. A contestant that sits a row out has no call.
+void measure(Report &report, const std::string &plans_are, const std::vector<Contestant> &contestants, const std::vector<Prepared> &plans,
              int repeats) {
   std::vector<Figures> figures(contestants.size());
-  std::vector<int> rounds;
-  for (const Contestant &contestant : contestants) rounds.push_back(std::max(1, int(4000 / (time_of(contestant, plans, 1) * double(plans.size())))));
+  std::vector<int> rounds(contestants.size());
+  const auto plays = [&](std::size_t i) { return bool(contestants[i].call); };
+  for (std::size_t i = 0; i < contestants.size(); ++i)
+    if (plays(i)) rounds[i] = std::max(1, int(4000 / (time_of(contestants[i], plans, 1) * double(plans.size()))));
   for (int repeat = 0; repeat < repeats; ++repeat)
-    for (std::size_t i = 0; i < contestants.size(); ++i) figures[i].microseconds.push_back(time_of(contestants[i], plans, rounds[i]));
-  std::printf("%-6s %3u %3u", call, n, k);
+    for (std::size_t i = 0; i < contestants.size(); ++i)
+      if (plays(i)) figures[i].microseconds.push_back(time_of(contestants[i], plans, rounds[i]));
+  report.names.clear();
+  report.rows += "| " + plans_are;
   for (std::size_t i = 0; i < contestants.size(); ++i) {
-    std::printf("  %s %.2f us", contestants[i].name.c_str(), figures[i].median());
-    if (i == 0) continue;
-    Figures ratio;
-    for (int repeat = 0; repeat < repeats; ++repeat)
-      ratio.microseconds.push_back(figures[i].microseconds[std::size_t(repeat)] / figures[0].microseconds[std::size_t(repeat)]);
-    const auto ends = std::minmax_element(ratio.microseconds.begin(), ratio.microseconds.end());
-    std::printf(" x%.2f (%.2f-%.2f)", ratio.median(), *ends.first, *ends.second);
+    report.names.push_back(contestants[i].name);
+    char cell[100] = "";
+    if (plays(i)) {
+      Figures ratio;
+      for (std::size_t repeat = 0; repeat < figures[i].microseconds.size(); ++repeat)
+        ratio.microseconds.push_back(figures[i].microseconds[repeat] / figures[0].microseconds[repeat]);
+      const auto ends = std::minmax_element(ratio.microseconds.begin(), ratio.microseconds.end());
+      if (i == 0) std::snprintf(cell, sizeof cell, "%.2f", figures[i].median());
+      else std::snprintf(cell, sizeof cell, "%.2f x%.2f (%.2f-%.2f)", figures[i].median(), ratio.median(), *ends.first, *ends.second);
+    }
+    report.rows += std::string(" | ") + cell;
   }
-  std::printf("\n");
+  report.rows += " |\n";
+}
+
+void print(const Report &report) {
+  std::printf("\n%s\n\n| n | k | sweeps", report.call.c_str());
+  for (const std::string &name : report.names) std::printf(" | %s", name.c_str());
+  std::printf(" |\n|--|--|--");
+  for (std::size_t i = 0; i < report.names.size(); ++i) std::printf("|--");
+  std::printf("|\n%s", report.rows.c_str());
 }
 
 // ---- stack ----
@@ -213,8 +235,8 @@ int main(int words, char **word) {
   judges.push_back({"RUL- verdict", [](const Prepared &p) { seen = rul::controllable(p.file.data(), p.file.size()); }});
   judges.push_back({"RUL- and two tables",
                     [](const Prepared &p) { seen = rul::controllable_with_tables(p.file.data(), p.file.size(), strict, open_cells); }});
-  std::printf("microseconds a call, the median of %d repeats; x: the ratio to plain C++ in the same repeat, its median (least-most)\n", repeats);
   std::vector<Prepared> largest;
+  Report judge_report{"Judge", "", {}}, check_report{"Check", "", {}}, add_report{"Add", "", {}};
   for (std::uint32_t n : {8u, 16u, 32u, 64u})
     for (std::uint32_t k : {0u, n / 4, n / 2}) {
       Random random(budget.seed * 1000003 + n * 100 + k);
@@ -226,16 +248,19 @@ int main(int words, char **word) {
         sweep::judge(plans.back().file.data(), plans.back().file.size(), strict, most_cells, open_cells, most_cells);
         sweeps += sweep::sweeps_of_last(), most_sweeps = std::max(most_sweeps, sweep::sweeps_of_last());
       }
-      std::printf("n %u, k %u, m %u: 12 controllable plans, sweeps %.1f on average, %u at most; tables %u bytes, Add's scratch %u bytes\n", n, k, 3 * n,
-                  sweeps / 12.0, most_sweeps, 8 * n * n, 16 * n * n);
+      char plans_are[80];
+      std::snprintf(plans_are, sizeof plans_are, "%u | %u | %.1f, at most %u", n, k, sweeps / 12.0, most_sweeps);
       std::vector<Contestant> with_boost = judges;
-      if (k == 0) with_boost.push_back({"Boost Floyd-Warshall", boost_floyd_warshall});
-      measure("Judge", n, k, with_boost, plans, repeats);
-      measure("Check", n, k, checks, plans, repeats);
-      measure("Add", n, k, adds, plans, repeats);
+      with_boost.push_back({"Boost Floyd-Warshall", k == 0 ? boost_floyd_warshall : std::function<void(const Prepared &)>()});
+      measure(judge_report, plans_are, with_boost, plans, repeats);
+      measure(check_report, plans_are, checks, plans, repeats);
+      measure(add_report, plans_are, adds, plans, repeats);
       largest = plans;
     }
-  std::printf("bytes of stack a call touches, at n 64 and k 32\n");
+  std::printf("12 controllable plans of 3 n limits a row. Microseconds of processor time a call, the median of %d repeats;\n", repeats);
+  std::printf("x: the ratio to plain C++ in the same repeat, its median (least-most). Both tables take 8 n n bytes, Add's scratch 16 n n.\n");
+  for (const Report *report : {&judge_report, &check_report, &add_report}) print(*report);
+  std::printf("\nBytes of stack a call touches, at n 64 and k 32\n\n");
   print_stack("plain C++", sweep::judge, sweep::check, sweep::add, largest[0]);
 #ifdef WITH_LIBRARY
   print_stack("library", post_judge, post_check, post_add, largest[0]);
