@@ -92,6 +92,7 @@ int main(int words, char **word) {
                 : kind == 1 ? stricter_tables(random, plan, false)
                 : kind == 4 ? random_tables(random, plan.points)
                             : stricter_tables(random, plan, true);
+    if (kind == 1 && pair.there && random.one_in(2)) pair.strict = tables_of(plan, most_weight).strict;  // closed, and open lower than least
     if (!pair.there) pair = tables_of(plan, most_weight);
     if (!pair.there) continue;
     ++kinds[kind];
