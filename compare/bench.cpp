@@ -1,0 +1,268 @@
+// How long Judge, Check and Add take, on the same plans in one run: the library (where linked), the same sweep in plain C++, source document 001's
+// RUL- algorithm for the verdict alone and with the two tables that a post would still need, and Boost's Floyd-Warshall on plans without links.
+// A repeat times every contestant once, one after the other, so that a slow moment falls on all; ratios are taken within a repeat.
+#include <pthread.h>
+#include <sys/mman.h>
+#include <time.h>
+
+#include <algorithm>
+#include <boost/graph/adjacency_list.hpp>
+#include <boost/graph/floyd_warshall_shortest.hpp>
+#include <functional>
+#include <string>
+
+#include "plan.hpp"
+#include "post.h"
+#include "random.hpp"
+#include "rul.hpp"
+#include "sweep.hpp"
+
+namespace {
+
+constexpr std::size_t most_cells = 64 * 64;
+
+// Time of this thread alone, so that other programs' turns do not count.
+double microseconds_now() {
+  timespec now;
+  clock_gettime(CLOCK_THREAD_CPUTIME_ID, &now);
+  return double(now.tv_sec) * 1e6 + double(now.tv_nsec) / 1e3;
+}
+
+struct Prepared {
+  std::vector<std::uint8_t> file;
+  std::size_t cells;
+  std::vector<std::int32_t> strict, open;  // as Judge leaves them
+  Limit added;                             // a limit that Add takes
+};
+
+std::int32_t strict[most_cells], open_cells[most_cells];
+std::int64_t scratch[2 * most_cells];
+volatile std::uint64_t seen;  // keeps the calls from being left out
+
+// ---- plans ----
+
+// A controllable plan of n points, k links and three limits a point, drawn about a hidden timetable with slack until it is controllable.
+Plan draw(Random &random, std::uint32_t n, std::uint32_t k) {
+  for (Wide slack = 20;; slack += 1 + slack / 50) {
+    Plan plan;
+    plan.points = n;
+    std::vector<Wide> hidden(n, 0);
+    std::vector<std::uint32_t> ends;
+    for (std::uint32_t x = 1; x < n; ++x) ends.push_back(x);
+    for (std::uint32_t i = n - 1; i > 1; --i) std::swap(ends[i - 1], ends[random.below(i)]);
+    ends.resize(k);
+    std::sort(ends.begin(), ends.end());
+    for (std::uint32_t x = 1; x < n; ++x) {
+      const std::uint32_t before = random.below(x);
+      const Wide shortest = random.from_to(1, 60), longest = shortest + random.from_to(1, 60);
+      hidden[x] = hidden[before] + shortest;
+      if (std::binary_search(ends.begin(), ends.end(), x)) plan.links.push_back({before, x, std::uint32_t(shortest), std::uint32_t(longest)});
+    }
+    while (plan.limits.size() < 3 * n) {
+      const std::uint32_t from = random.below(n), to = random.below(n);
+      plan.limits.push_back({from, to, hidden[to] - hidden[from] + random.from_to(slack / 4, slack)});
+    }
+    const auto file = file_of(plan);
+    if (sweep::judge(file.data(), file.size(), strict, most_cells, open_cells, most_cells) == 0) return plan;
+  }
+}
+
+Prepared prepare(Random &random, const Plan &plan) {
+  Prepared prepared;
+  prepared.file = file_of(plan);
+  prepared.cells = std::size_t(plan.points) * plan.points;
+  sweep::judge(prepared.file.data(), prepared.file.size(), strict, most_cells, open_cells, most_cells);
+  prepared.strict.assign(strict, strict + prepared.cells);
+  prepared.open.assign(open_cells, open_cells + prepared.cells);
+  for (int tries = 0;; ++tries) {  // one that tightens something and is taken; any that is taken if none does
+    const std::uint32_t from = random.below(plan.points), to = random.below(plan.points);
+    const std::int32_t cell = prepared.strict[from * plan.points + to];
+    if (from == to || cell == mark) continue;
+    prepared.added = {from, to, std::clamp<Wide>(tries < 200 ? cell - 1 : cell, -most_weight, most_weight)};
+    std::copy(prepared.strict.begin(), prepared.strict.end(), strict);
+    std::copy(prepared.open.begin(), prepared.open.end(), open_cells);
+    if (sweep::add(prepared.file.data(), prepared.file.size(), from, to, std::int32_t(prepared.added.weight), strict, prepared.cells, open_cells,
+                   prepared.cells, scratch, 2 * prepared.cells) == 0)
+      return prepared;
+  }
+}
+
+// ---- contestants ----
+
+struct Contestant {
+  std::string name;
+  std::function<void(const Prepared &)> call;
+};
+
+template <class Judge>
+Contestant judging(const char *name, Judge judge) {
+  return {name, [judge](const Prepared &p) { seen = judge(p.file.data(), p.file.size(), strict, p.cells, open_cells, p.cells); }};
+}
+
+template <class Check>
+Contestant checking(const char *name, Check check) {
+  return {name, [check](const Prepared &p) { seen = check(p.file.data(), p.file.size(), p.strict.data(), p.cells, p.open.data(), p.cells); }};
+}
+
+template <class Add>
+Contestant adding(const char *name, Add add) {
+  return {name, [add](const Prepared &p) {
+            std::copy(p.strict.begin(), p.strict.end(), strict);
+            std::copy(p.open.begin(), p.open.end(), open_cells);
+            seen = add(p.file.data(), p.file.size(), p.added.from, p.added.to, std::int32_t(p.added.weight), strict, p.cells, open_cells, p.cells,
+                       scratch, 2 * p.cells);
+          }};
+}
+
+// Boost's Floyd-Warshall as its manual has it: an adjacency list with weights, built from the file, and a matrix of distances.
+void boost_floyd_warshall(const Prepared &p) {
+  using Graph = boost::adjacency_list<boost::vecS, boost::vecS, boost::directedS, boost::no_property, boost::property<boost::edge_weight_t, int>>;
+  const std::size_t n = field_at(p.file, 4), m = field_at(p.file, 8);
+  Graph graph(n);
+  for (std::size_t i = 0; i < m; ++i)
+    boost::add_edge(field_at(p.file, 24 + 12 * i), field_at(p.file, 28 + 12 * i), int(field_at(p.file, 32 + 12 * i)), graph);
+  for (std::size_t x = 0; x < n; ++x) boost::add_edge(x, 0, 0, graph);
+  static std::vector<std::vector<int>> distance(64, std::vector<int>(64));
+  seen = boost::floyd_warshall_all_pairs_shortest_paths(graph, distance);
+}
+
+// ---- measuring ----
+
+struct Figures {
+  std::vector<double> microseconds;  // one a repeat
+  double median() const {
+    auto sorted = microseconds;
+    std::sort(sorted.begin(), sorted.end());
+    return sorted[sorted.size() / 2];
+  }
+};
+
+double time_of(const Contestant &contestant, const std::vector<Prepared> &plans, int rounds) {
+  const double began = microseconds_now();
+  for (int i = 0; i < rounds; ++i)
+    for (const Prepared &prepared : plans) contestant.call(prepared);
+  return (microseconds_now() - began) / double(rounds) / double(plans.size());
+}
+
+// One table for each call, printed as Markdown at the end.
+struct Report {
+  std::string call, rows;
+  std::vector<std::string> names;
+};
+
+// Times the contestants, the first being the measure of the others, and adds a row. A contestant that sits a row out has no call.
+void measure(Report &report, const std::string &plans_are, const std::vector<Contestant> &contestants, const std::vector<Prepared> &plans,
+             int repeats) {
+  std::vector<Figures> figures(contestants.size());
+  std::vector<int> rounds(contestants.size());
+  const auto plays = [&](std::size_t i) { return bool(contestants[i].call); };
+  for (std::size_t i = 0; i < contestants.size(); ++i)
+    if (plays(i)) rounds[i] = std::max(1, int(4000 / (time_of(contestants[i], plans, 1) * double(plans.size()))));
+  for (int repeat = 0; repeat < repeats; ++repeat)
+    for (std::size_t i = 0; i < contestants.size(); ++i)
+      if (plays(i)) figures[i].microseconds.push_back(time_of(contestants[i], plans, rounds[i]));
+  report.names.clear();
+  report.rows += "| " + plans_are;
+  for (std::size_t i = 0; i < contestants.size(); ++i) {
+    report.names.push_back(contestants[i].name);
+    char cell[100] = "";
+    if (plays(i)) {
+      Figures ratio;
+      for (std::size_t repeat = 0; repeat < figures[i].microseconds.size(); ++repeat)
+        ratio.microseconds.push_back(figures[i].microseconds[repeat] / figures[0].microseconds[repeat]);
+      const auto ends = std::minmax_element(ratio.microseconds.begin(), ratio.microseconds.end());
+      if (i == 0) std::snprintf(cell, sizeof cell, "%.2f", figures[i].median());
+      else std::snprintf(cell, sizeof cell, "%.2f x%.2f (%.2f-%.2f)", figures[i].median(), ratio.median(), *ends.first, *ends.second);
+    }
+    report.rows += std::string(" | ") + cell;
+  }
+  report.rows += " |\n";
+}
+
+void print(const Report &report) {
+  std::printf("\n%s\n\n| n | k | sweeps", report.call.c_str());
+  for (const std::string &name : report.names) std::printf(" | %s", name.c_str());
+  std::printf(" |\n|--|--|--");
+  for (std::size_t i = 0; i < report.names.size(); ++i) std::printf("|--");
+  std::printf("|\n%s", report.rows.c_str());
+}
+
+// ---- stack ----
+
+// Bytes of stack that a call touches below its caller: it is run on a painted stack.
+std::size_t stack_of(const std::function<void()> &call) {
+  static const std::function<void()> *running;
+  constexpr std::size_t size = 1024 * 1024;
+  const auto touched = [&](const std::function<void()> &what) {
+    void *stack = mmap(nullptr, size, PROT_READ | PROT_WRITE, MAP_PRIVATE | MAP_ANONYMOUS, -1, 0);
+    std::memset(stack, 0xa5, size);
+    running = &what;
+    pthread_attr_t attributes;
+    pthread_attr_init(&attributes);
+    pthread_attr_setstack(&attributes, stack, size);
+    pthread_t thread;
+    if (pthread_create(&thread, &attributes, [](void *) -> void * { (*running)(); return nullptr; }, nullptr) != 0) return std::size_t(0);
+    pthread_join(thread, nullptr);
+    const auto *bytes = static_cast<const std::uint8_t *>(stack);
+    std::size_t untouched = 0;
+    while (untouched < size && bytes[untouched] == 0xa5) ++untouched;
+    munmap(stack, size);
+    return size - untouched;
+  };
+  const std::size_t with = touched(call), without = touched([] {});
+  return with > without ? with - without : 0;
+}
+
+void print_stack(const char *name, decltype(&post_judge) judge, decltype(&post_check) check, decltype(&post_add) add, const Prepared &p) {
+  std::printf("  %-10s Judge %zu, Check %zu, Add %zu\n", name, stack_of([&] { judging("", judge).call(p); }),
+              stack_of([&] { checking("", check).call(p); }), stack_of([&] { adding("", add).call(p); }));
+}
+
+}  // namespace
+
+int main(int words, char **word) {
+  Budget budget(words, word, 15);  // count: repeats
+  const int repeats = int(budget.count);
+  std::vector<Contestant> judges = {judging("plain C++", sweep::judge)}, checks = {checking("plain C++", sweep::check)},
+                          adds = {adding("plain C++", sweep::add)};
+#ifdef WITH_LIBRARY
+  judges.push_back(judging("library", post_judge));
+  checks.push_back(checking("library", post_check));
+  adds.push_back(adding("library", post_add));
+#endif
+  judges.push_back(judging("by spreading", [](auto... lent) { return sweep::judge_by_spreading(lent..., false); }));
+  judges.push_back(judging("by joins and spreading", [](auto... lent) { return sweep::judge_by_spreading(lent..., true); }));
+  judges.push_back({"RUL- verdict", [](const Prepared &p) { seen = rul::controllable(p.file.data(), p.file.size()); }});
+  judges.push_back({"RUL- and two tables",
+                    [](const Prepared &p) { seen = rul::controllable_with_tables(p.file.data(), p.file.size(), strict, open_cells); }});
+  std::vector<Prepared> largest;
+  Report judge_report{"Judge", "", {}}, check_report{"Check", "", {}}, add_report{"Add", "", {}};
+  for (std::uint32_t n : {8u, 16u, 32u, 64u})
+    for (std::uint32_t k : {0u, n / 4, n / 2}) {
+      Random random(budget.seed * 1000003 + n * 100 + k);
+      std::vector<Prepared> plans;
+      unsigned sweeps = 0, most_sweeps = 0;
+      for (int i = 0; i < 12; ++i) {
+        const Plan plan = draw(random, n, k);
+        plans.push_back(prepare(random, plan));
+        sweep::judge(plans.back().file.data(), plans.back().file.size(), strict, most_cells, open_cells, most_cells);
+        sweeps += sweep::sweeps_of_last(), most_sweeps = std::max(most_sweeps, sweep::sweeps_of_last());
+      }
+      char plans_are[80];
+      std::snprintf(plans_are, sizeof plans_are, "%u | %u | %.1f, at most %u", n, k, sweeps / 12.0, most_sweeps);
+      std::vector<Contestant> with_boost = judges;
+      with_boost.push_back({"Boost Floyd-Warshall", k == 0 ? boost_floyd_warshall : std::function<void(const Prepared &)>()});
+      measure(judge_report, plans_are, with_boost, plans, repeats);
+      measure(check_report, plans_are, checks, plans, repeats);
+      measure(add_report, plans_are, adds, plans, repeats);
+      largest = plans;
+    }
+  std::printf("12 controllable plans of 3 n limits a row. Microseconds of processor time a call, the median of %d repeats;\n", repeats);
+  std::printf("x: the ratio to plain C++ in the same repeat, its median (least-most). Both tables take 8 n n bytes, Add's scratch 16 n n.\n");
+  for (const Report *report : {&judge_report, &check_report, &add_report}) print(*report);
+  std::printf("\nBytes of stack a call touches, at n 64 and k 32\n\n");
+  print_stack("plain C++", sweep::judge, sweep::check, sweep::add, largest[0]);
+#ifdef WITH_LIBRARY
+  print_stack("library", post_judge, post_check, post_add, largest[0]);
+#endif
+}

@@ -1,0 +1,136 @@
+// How many sweeps Judge needs, counted by the plain C++ sweep: over random plans of up to 12 points and 5 links, then of any size, and then by
+// climbing, which changes a plan a little and keeps the change if it needs no fewer sweeps.
+#include <algorithm>
+
+#include "random.hpp"
+#include "reference.hpp"
+#include "shapes.hpp"
+#include "sweep.hpp"
+
+namespace {
+
+struct Judged {
+  unsigned sweeps;
+  bool controllable;
+};
+
+Judged judge(const Plan &plan) {
+  static std::int32_t strict[64 * 64], open[64 * 64];
+  const auto file = file_of(plan);
+  const std::uint64_t answer = sweep::judge(file.data(), file.size(), strict, 64 * 64, open, 64 * 64);
+  return {sweep::sweeps_of_last(), answer == 0};
+}
+
+struct Most {
+  unsigned sweeps[2] = {0, 0};  // refused, controllable
+  std::uint64_t plans[2] = {0, 0}, total[2] = {0, 0};
+  Plan plan[2];
+  void see(const Plan &seen) {
+    const Judged judged = judge(seen);
+    const int verdict = judged.controllable;
+    ++plans[verdict];
+    total[verdict] += judged.sweeps;
+    if (judged.sweeps > sweeps[verdict]) sweeps[verdict] = judged.sweeps, plan[verdict] = seen;
+  }
+  void print(const char *what) const {
+    for (int verdict : {1, 0}) {
+      std::printf("  %s, %s: %llu plans, most sweeps %u, on average %.2f\n", what, verdict ? "controllable" : "uncontrollable",
+                  static_cast<unsigned long long>(plans[verdict]), sweeps[verdict],
+                  plans[verdict] ? double(total[verdict]) / double(plans[verdict]) : 0.0);
+      if (plan[verdict].points <= 12) std::printf("    %s\n", notation(plan[verdict]).c_str());
+    }
+  }
+};
+
+// One small change that keeps the plan sound.
+Plan changed(Random &random, Plan plan) {
+  const auto point = [&] { return random.below(plan.points); };
+  const Wide step = random.one_in(2) ? 1 : random.from_to(1, 20);
+  switch (random.below(6)) {
+    case 0:
+      if (plan.limits.size() < 40) plan.limits.push_back({point(), point(), random.from_to(-12, 24)});
+      break;
+    case 1:
+      if (!plan.limits.empty()) plan.limits.erase(plan.limits.begin() + random.below(std::uint32_t(plan.limits.size())));
+      break;
+    case 2: case 3:
+      if (!plan.limits.empty()) {
+        Wide &weight = plan.limits[random.below(std::uint32_t(plan.limits.size()))].weight;
+        weight = std::clamp(weight + (random.one_in(2) ? step : -step), -most_weight, most_weight);
+      }
+      break;
+    case 4:
+      if (!plan.links.empty()) {
+        Link &link = plan.links[random.below(std::uint32_t(plan.links.size()))];
+        const Wide shortest = std::max<Wide>(1, link.shortest + random.from_to(-2, 2));
+        const Wide longest = std::max(shortest + 1, link.longest + random.from_to(-step, step));
+        link.shortest = std::uint32_t(std::min(shortest, most_weight - 1)), link.longest = std::uint32_t(std::min(longest, most_weight));
+      }
+      break;
+    default:
+      if (!plan.links.empty()) {
+        Link &link = plan.links[random.below(std::uint32_t(plan.links.size()))];
+        const std::uint32_t activation = point();
+        if (activation != link.contingent) link.activation = activation;
+      }
+  }
+  return plan;
+}
+
+Plan start(Random &random, std::uint32_t n, std::uint32_t k) {
+  Plan plan;
+  plan.points = n;
+  for (std::uint32_t i = 0; i < k; ++i) {
+    const std::uint32_t end = n - 1 - i, shortest = 1 + random.below(5);
+    plan.links.push_back({random.below(n - k), end, shortest, shortest + 1 + random.below(20)});
+  }
+  for (std::uint32_t i = 0; i < 2 * k; ++i) plan.limits.push_back({random.below(n), random.below(n), random.from_to(-6, 24)});
+  return plan;
+}
+
+// The most sweeps that climbing finds for a verdict.
+void climb(const Budget &budget, std::uint32_t n, std::uint32_t k, bool controllable, int starts, int steps) {
+  Plan best;
+  unsigned most = 0;
+  Random random(budget.seed * 7919 + n * 64 + k * 2 + controllable);
+  for (int i = 0; i < starts; ++i) {
+    Plan plan = start(random, n, k);
+    unsigned here = judge(plan).controllable == controllable ? judge(plan).sweeps : 0;
+    for (int step = 0; step < steps; ++step) {
+      Plan next = changed(random, plan);
+      for (int more = random.below(3); more > 0; --more) next = changed(random, next);
+      const Judged judged = judge(next);
+      const unsigned there = judged.controllable == controllable ? judged.sweeps : 0;
+      if (there >= here) plan = next, here = there;
+    }
+    if (here > most) most = here, best = plan;
+  }
+  std::printf("  climbing, %2u points and %u links, %s: most sweeps %u\n    %s\n", n, k, controllable ? "controllable" : "uncontrollable", most,
+              notation(best).c_str());
+  if (reference::settle(best, most_weight).controllable != controllable) {
+    std::printf("DIFFERENCE: the reference has another verdict on this plan\n");
+    std::exit(1);
+  }
+}
+
+}  // namespace
+
+int main(int words, char **word) {
+  Budget budget(words, word, 30000);
+  Most small, any;
+  while (budget.more()) {
+    Random random = budget.round();
+    small.see(random_plan(random, 12, most_limits, 5));
+    if (budget.done % 10 != 0) continue;
+    Plan plan = random_plan(random);
+    any.see(plan);
+    for (int i = 0; i < 20 && plan.points < 30; ++i) plan = random_plan(random);  // large ones are rare among the shapes
+    any.see(plan);
+  }
+  std::printf("sweeps: %.1f s\n", budget.spent());
+  small.print("up to 12 points and 5 links");
+  any.print("up to 64 points and 32 links");
+  const int starts = int(std::min<std::uint64_t>(40, 2 + budget.done / 10000)), steps = 4000;
+  for (std::uint32_t k : {2u, 3u, 4u, 5u, 6u})
+    for (bool controllable : {true, false}) climb(budget, 2 * k + 2, k, controllable, starts, steps);
+}
