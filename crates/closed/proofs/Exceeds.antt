@@ -1,5 +1,5 @@
 -- Tests of one cell against what it may not exceed. Assumes nothing.
-use mathlib.Core.Path.{_≡_, refl, sym, ap, subst, _∙_}
+use mathlib.Core.Path.{_≡_, sym, subst, _∙_}
 use mathlib.Core.Bool.{Bool, true, false, not, true≢false}
 use mathlib.Core.List.{List}
 use Prim.Native.Nat.{ℕ, zero, _+_, _*_}
@@ -48,7 +48,7 @@ decides-cell P n x y t v e d = decides-same P (read-cell version1 n x y t v e) d
 pub weight-cell : (a : ℤ) → a ≤ℤ pos (version1 .weight) → cell32 a ≡ num a
 weight-cell a h = number-is (version1 .mark) a (omega (ints, room32))
 
--- a cell is 0 where neither of it and 0 exceeds the other
+-- a cell is a number where neither of it and the number exceeds the other
 module _ (a z : Cell) {v : ℤ} (f : z ≡ num v) {b : Bool} (d : Decides b (a ≤ᶜ z)) where
   pub not-same : not b ≡ true → Decides false (a ≡ num v)
   not-same y = decided-no (λ e. d .fails (not-true b y) (subst (λ (c : Cell). c ≤ᶜ z) (f ∙ sym e) (≤ᶜ-refl z)))

@@ -1,7 +1,7 @@
 // The strict table against what Upper yields.
 ghost use Prim.Native.Nat.{_≤_, _<_};
 ghost use Rattle.rules.specs.Plan.{version1, LinkInRange};
-ghost use Rattle.rules.specs.Cells.{_≤ᶜ_, uppered, tableOf};
+ghost use Rattle.rules.specs.Cells.{tableOf};
 ghost use Rattle.plan.specs.Layout.{linkAt};
 ghost use Rattle.plan.specs.Values.{linkOf};
 ghost use Rattle.cell.specs.Steps.{Decides};

@@ -3,7 +3,6 @@ use mathlib.Core.Path.{_≡_, _∙_, ap}
 use borrow.Author.Needs.{needs}
 use lib.IntN.{pos}
 use Rattle.whole.proofs.Order.{ints}
-use Rattle.rules.specs.Plan.{version1}
 use Rattle.rules.specs.Cells.{Cell, num}
 use Rattle.cell.specs.Steps.{cell32}
 use Rattle.closed.proofs.Exceeds.{decides-cell, weight-cell, not-same, same}
