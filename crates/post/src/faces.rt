@@ -37,7 +37,12 @@ pub extern "C" fn post_judge(file: &[u8], strict: &mut [i32], open: &mut [i32]) 
 
 // Earliest.
 #[no_mangle]
-pub extern "C" fn post_earliest(file: &[u8], strict: &mut [i32], open: &mut [i32], times: &mut [i32]) -> u64
+pub extern "C" fn post_earliest(
+    file: &[u8],
+    strict: &mut [i32],
+    open: &mut [i32],
+    times: &mut [i32],
+) -> u64
     ensures { λ r. ⌜ Packed (λ a. Timed version1 (fileAnswer (now (file .entry))) (planOf (now (file .entry))) (now (strict .entry)) (now («open» .entry)) (now (times .entry)) a (now (strict .exit)) (now («open» .exit)) (now (times .exit))) r ⌝ }
 {
     packed(earliest(file, strict, open, times))

@@ -51,9 +51,12 @@ timed-requires c κs =
     let h = c .before .before .before .before .before .before in
     let a = h .before .before .before .before .before .args in
     let cells =
-      enough-cells (a .file .now) (enough h .sound) (h .head .result) (h .head .ensures) (length (a .strict .now)) (length (a .«open» .now)) (enough h) in
-    (ready-no-links (a .file .now) (h .head .result) (h .head .ensures) (a .strict .now) (a .«open» .now) (a .times .now) (enough h) (c .before .before .before .if3 .left), cells .0,
-      cells .1, c .before .before .before .before .if2 .left)
+    enough-cells (a .file .now) (enough h .sound) (h .head .result) (h .head .ensures) (length (a .strict .now)) (length (a .«open» .now)) (enough h) in (
+      ready-no-links (a .file .now) (h .head .result) (h .head .ensures) (a .strict .now) (a .«open» .now) (a .times .now) (enough h) (c .before .before .before .if3 .left),
+      cells .0,
+      cells .1,
+      c .before .before .before .before .if2 .left,
+    )
 
 same-length : tie.Need-same-length
 same-length c = search needs

@@ -34,12 +34,13 @@ times-all-requires c κs =
     let s = c .before .before .before .before .before .before .before .before .before .before in
     let judged = c .before .before .before .before .before .before .judge-sound in
     let accepted = c .before .before .before .accepted in
-    let few : s .args .n ≤ version1 .points = ready-few (s .args .file .now) (s .args .n) (s .args .m) 0 (s .pre .0) in
-    (few,
+    let few : s .args .n ≤ version1 .points = ready-few (s .args .file .now) (s .args .n) (s .args .m) 0 (s .pre .0) in (
+      few,
       written-sound (s .args .file .now) (s .args .n) (s .args .m) (s .pre .0) (s .args .strict .now) (s .args .«open» .now) (s .args .times .now) (s .pre .1) (s .pre .2) (s .pre .3)
-      (written-of (s .args .file .now) (s .args .n) (s .args .m) (s .pre .0) (s .args .strict .now) (s .args .«open» .now) (s .args .times .now) (s .pre .1) (s .pre .2) (s .pre .3)
-        (judged .ensures) (is-accepted (judged .result) (accepted .result) (accepted .ensures) (c .before .before .if1 .left))),
-      s .pre .3)
+          (written-of (s .args .file .now) (s .args .n) (s .args .m) (s .pre .0) (s .args .strict .now) (s .args .«open» .now) (s .args .times .now) (s .pre .1) (s .pre .2) (s .pre .3)
+          (judged .ensures) (is-accepted (judged .result) (accepted .result) (accepted .ensures) (c .before .before .if1 .left))),
+      s .pre .3,
+    )
 
 same-length-3 : tie.Need-same-length-3
 same-length-3 c = search needs
@@ -57,7 +58,7 @@ returns-2 c =
     let accepted = c .before .before .before .before .before .accepted in
     timed-done (s .args .file .now) (s .args .n) (s .args .m) (s .pre .0) (s .args .strict .now) (s .args .«open» .now) (s .args .times .now) (s .pre .1) (s .pre .2) (s .pre .3)
     (written-of (s .args .file .now) (s .args .n) (s .args .m) (s .pre .0) (s .args .strict .now) (s .args .«open» .now) (s .args .times .now) (s .pre .1) (s .pre .2) (s .pre .3)
-      (judged .ensures) (is-accepted (judged .result) (accepted .result) (accepted .ensures) (c .before .before .before .before .if1 .left)))
+    (judged .ensures) (is-accepted (judged .result) (accepted .result) (accepted .ensures) (c .before .before .before .before .if1 .left)))
     (c .before .times-all .ensures)
 
 pub timed-spec : {M : Type 1} → statement M
