@@ -12,3 +12,4 @@ pub mod Ready
 pub mod Links
 pub mod Starts
 pub mod Sounds
+pub mod Seen

@@ -1,12 +1,15 @@
 // Two lent tables: the sweep that lowers them to the least totals. What each function computes is said by the functions of lists in specs/Sweep.antt.
 // Here one cell: read, written, and lowered.
 mod joins;
+mod looks;
 mod lowers;
 mod opening;
 mod starting;
 mod sweep;
 mod uppers;
 
+pub use looks::fair;
+pub use looks::height_all;
 pub use starting::first_open;
 pub use starting::first_strict;
 pub use starting::mark_all;
