@@ -1,0 +1,3 @@
+-- What the functions over the scratch compute.
+pub mod Swept
+pub mod Copies
