@@ -1,0 +1,4 @@
+-- Laws that the walks through the scratch cite.
+pub mod Copying
+pub mod Parts
+pub mod Sweeps
