@@ -13,3 +13,5 @@ pub mod Links
 pub mod Starts
 pub mod Sounds
 pub mod Seen
+pub mod Standing
+pub mod Minus

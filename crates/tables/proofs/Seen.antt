@@ -35,6 +35,10 @@ pub looked-both : {r : Ranges} {n : ℕ} {t : List ℤ} {b : Bool} → AllWithin
     → Looked b (Fair r n t) (Unfair r n t)
 looked-both w l = record { holds = λ e. record { within = w; diagonal = l .holds e }; fails = l .fails }
 
+-- one table fair, and a look at another
+pub looked-also : {first second not-first not-second : Type 0} {b : Bool} → first → Looked b second not-second → Looked b (first × second) (not-first ⊎ not-second)
+looked-also f l = record { holds = λ e. (f, l .holds e); fails = λ e. inr (l .fails e) }
+
 -- ---- cells by their index
 
 -- a table's cells, by their index

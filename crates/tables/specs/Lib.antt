@@ -2,3 +2,4 @@
 pub mod Table
 pub mod Sweep
 pub mod Fair
+pub mod Ends
