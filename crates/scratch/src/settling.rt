@@ -6,7 +6,7 @@ ghost use lib.ListN.{length};
 ghost use Rattle.cell.specs.Steps.{adding};
 ghost use Rattle.plan.specs.Layout.{linkAt};
 ghost use Rattle.tables.specs.Table.{Ready};
-ghost use Rattle.tables.specs.Sweep.{sweepStrict, sweepOpen, heights};
+ghost use Rattle.tables.specs.Sweep.{caseAll, joinAll, sweepStrict, sweepOpen, heights};
 ghost use Rattle.tables.specs.Fair.{Fair, Unfair, Looked};
 ghost use Rattle.scratch.specs.Swept.{strictPart, openPart, Both, Ended};
 use crate::opening::open_under;
@@ -15,16 +15,32 @@ use wide::height_all;
 use wide::join_cases;
 use wide::sweep_strict;
 
-// One sweep of both tables.
-fn sweep(file: &[u8], n: usize, m: u32, k: u32, t: &mut [i64])
+// The strict table's part of a sweep.
+fn sweep_first(file: &[u8], n: usize, m: u32, k: u32, t: &mut [i64])
     requires { ⌜ Ready (now file) n m k × Both adding n (now t) ⌝ }
-    ensures first { λ r. ⌜ strictPart n (now (t .exit)) ≡ sweepStrict adding n (linkAt (now (file .entry)) m) k (strictPart n (now (t .entry))) ⌝ }
-    ensures second { λ r. ⌜ openPart n (now (t .exit)) ≡ sweepOpen adding n (linkAt (now (file .entry)) m) k (strictPart n (now (t .exit))) (openPart n (now (t .entry))) ⌝ }
+    ensures { λ r. ⌜ (strictPart n (now (t .exit)) ≡ sweepStrict adding n (linkAt (now (file .entry)) m) k (strictPart n (now (t .entry)))) × (openPart n (now (t .exit)) ≡ openPart n (now (t .entry))) ⌝ }
 {
     let cells = n * n;
     sweep_strict(file, n, m, k, &mut t[..cells]);
-    open_under(t, n);
+}
+
+// The open table's, once it is under the strict one.
+fn sweep_last(file: &[u8], n: usize, m: u32, k: u32, t: &mut [i64])
+    requires { ⌜ Ready (now file) n m k × Both adding n (now t) ⌝ }
+    ensures { λ r. ⌜ (strictPart n (now (t .exit)) ≡ strictPart n (now (t .entry))) × (openPart n (now (t .exit)) ≡ joinAll adding n (caseAll adding n (linkAt (now (file .entry)) m) k (openPart n (now (t .entry))))) ⌝ }
+{
+    let cells = n * n;
     join_cases(file, n, m, k, &mut t[cells..]);
+}
+
+// One sweep of both tables.
+fn sweep(file: &[u8], n: usize, m: u32, k: u32, t: &mut [i64])
+    requires { ⌜ Ready (now file) n m k × Both adding n (now t) ⌝ }
+    ensures { λ r. ⌜ (strictPart n (now (t .exit)) ≡ sweepStrict adding n (linkAt (now (file .entry)) m) k (strictPart n (now (t .entry)))) × (openPart n (now (t .exit)) ≡ sweepOpen adding n (linkAt (now (file .entry)) m) k (strictPart n (now (t .exit))) (openPart n (now (t .entry)))) ⌝ }
+{
+    sweep_first(file, n, m, k, t);
+    open_under(t, n);
+    sweep_last(file, n, m, k, t);
 }
 
 // Whether nothing in both tables speaks against the plan.

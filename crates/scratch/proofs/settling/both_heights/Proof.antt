@@ -1,49 +1,67 @@
+-- `settling::both_heights` meets its contract: two tables of at most 4,096 cells each stand far below the largest u64. Assumes nothing.
+use Prim.Native.Nat.{_*_}
+use native.Mathlib.Omega.{arith}
+use Rattle.whole.proofs.Place.{square-le}
+use Rattle.cell.specs.Steps.{adding}
+use Rattle.tables.proofs.Seen.{sound-held, heights-most}
+use Rattle.scratch.specs.Swept.{strictPart, openPart}
+use Rattle.scratch.proofs.Parts.{half-room, front-length, rest}
 use borrow.Author.Needs.{needs}
 use Rattle.scratch.proofs.settling.both_heights.Statement.{statement}
 use Rattle.scratch.proofs.settling.both_heights.Tie as tie
-use Rattle.scratch.proofs.settling.both_heights.Reads as reads
-use Rattle.scratch.proofs.settling.both_heights.Lts as lts
-use Rattle.wide.proofs.height_all.Reads as height-all-reads
 
--- src/settling.rt:47:17
 mul-cells : tie.Need-mul-cells
 mul-cells c = search needs
 
--- src/settling.rt:48:16
 slice-aggregate-height-all : tie.Need-slice-aggregate-height-all
-slice-aggregate-height-all c = ?
+slice-aggregate-height-all c =
+    let s = c .before in
+    front-length (s .args .n * s .args .n) (s .args .t .now) (half-room (s .pre .1))
 
--- src/settling.rt:48:5
 height-all-requires : tie.Need-height-all-requires
-height-all-requires c κs = ?
+height-all-requires c κs =
+    let s = c .before in
+    (omega (arith, square-le (s .pre .0)), sound-held (s .pre .1 .strict))
 
--- src/settling.rt:48:49
 mul-height-all : tie.Need-mul-height-all
 mul-height-all c = search needs
 
--- src/settling.rt:48:49
 sub-height-all : tie.Need-sub-height-all
 sub-height-all c = search needs
 
--- src/settling.rt:48:49
 part-height-all-start : tie.Need-part-height-all-start
 part-height-all-start c = search needs
 
--- src/settling.rt:48:49
 part-height-all-end : tie.Need-part-height-all-end
 part-height-all-end c = search needs
 
--- src/settling.rt:48:38
 height-all-requires-2 : tie.Need-height-all-requires-2
-height-all-requires-2 c κs = ?
+height-all-requires-2 c κs =
+    let s = c .before .before .before in
+    (omega (arith, square-le (s .pre .0)), rw (rest (s .args .n * s .args .n) (s .args .t .now)) (sound-held (s .pre .1 .weak)))
 
--- src/settling.rt:48:5
 add-result : tie.Need-add-result
-add-result c = ?
+unfolding adding
+add-result c =
+    let s = c .before .before .before .before in
+    let height-all = c .before .before .height-all in
+    let height-all2 = c .height-all2 in
+    let cells = s .args .n * s .args .n in
+    omega (
+      arith,
+      square-le (s .pre .0),
+      height-all .ensures,
+      rw (rest (s .args .n * s .args .n) (s .args .t .now)) at (height-all2 .ensures),
+      heights-most adding cells (strictPart (s .args .n) (s .args .t .now)) (sound-held (s .pre .1 .strict)) cells (omega arith),
+      heights-most adding cells (openPart (s .args .n) (s .args .t .now)) (sound-held (s .pre .1 .weak)) cells (omega arith),
+    )
 
--- src/settling.rt:43:1
 returns : tie.Need-returns
-returns c = ?
+returns c =
+    let s = c .before .before .before .before in
+    let height-all = c .before .before .height-all in
+    let height-all2 = c .height-all2 in
+    omega (arith, height-all .ensures, rw (rest (s .args .n * s .args .n) (s .args .t .now)) at (height-all2 .ensures))
 
 pub both-heights-spec : {M : Type 1} → statement M
 both-heights-spec =
