@@ -1,5 +1,7 @@
 -- What the sweeps of both parts of a scratch keep and how they end: of any plan whose start they were given. Assumes nothing.
 use mathlib.Core.Path.{_≡_, refl, sym, ap, subst, _∙_}
+use mathlib.Core.Bool.{true, false, true≢false}
+use mathlib.Core.Logic.{_⊎_}
 use mathlib.Core.List.{List}
 use Prim.Native.Nat.{ℕ, _+_, _*_, _≤_}
 use native.Mathlib.Omega.{arith}
@@ -10,14 +12,25 @@ use Rattle.plan.specs.Layout.{linkAt}
 use Rattle.cell.specs.Steps.{adding}
 use Rattle.tables.specs.Table.{Sound, Ready}
 use Rattle.tables.specs.Sweep.{openAll, caseAll, joinAll, sweepStrict, sweepOpen, heights}
-use Rattle.tables.specs.Fair.{Fair}
+use Rattle.tables.specs.Fair.{Fair, Unfair}
 use Rattle.tables.proofs.Links.{link-points}
 use Rattle.tables.proofs.Lowering.{Lowered}
 use Rattle.tables.proofs.Steps.{strict-lowers, open-lowers, open-sweep-lowers}
 use Rattle.tables.proofs.Heights.{lowered-heights, same-heights}
 use Rattle.wide.proofs.Start.{adding-coherent}
-use Rattle.scratch.specs.Swept.{strictPart, openPart, Both, Quiet}
+use Rattle.scratch.specs.Swept.{strictPart, openPart, Both, Swept, none, more, Quiet, Ended}
 use Rattle.scratch.proofs.Parts.{both-of}
+
+-- some sweeps done: both tables are there, and the number is how far they can still fall
+pub record Sweeping (n : ℕ) (link : ℕ → Link) (links : ℕ) (start now : List ℤ) (last : ℕ) : Type 0 where
+  pub both : Both adding n now
+  pub same-length : length now ≡ length start
+  pub swept : Swept adding n link links (strictPart n start) (openPart n start) (strictPart n now) (openPart n now)
+  pub last-is : last ≡ heights adding (n * n) (strictPart n now) + heights adding (n * n) (openPart n now)
+
+pub sweeping-none : {n : ℕ} {link : ℕ → Link} {links : ℕ} {t : List ℤ} {last : ℕ} → Both adding n t
+    → last ≡ heights adding (n * n) (strictPart n t) + heights adding (n * n) (openPart n t) → Sweeping n link links t t last
+sweeping-none b e = record { both = b; same-length = refl; swept = none; last-is = e }
 
 module _ {s : List ℕ} {n m k : ℕ} (r : Ready s n m k) where
   -- after the strict table's part of a sweep
@@ -85,4 +98,37 @@ module _ {s : List ℕ} {n m k : ℕ} (r : Ready s n m k) where
           open-same = ap (sweepOpen adding n (linkAt s m) k (strictPart n u)) uo ∙ sym eo;
           strict-fair = fs;
           open-fair = fo;
+        }
+
+  module _ {start now : List ℤ} {last : ℕ} (u : List ℤ) (w : Sweeping n (linkAt s m) k start now last) (el : length u ≡ length now)
+      (e : (strictPart n u ≡ sweepStrict adding n (linkAt s m) k (strictPart n now))
+      × (openPart n u ≡ sweepOpen adding n (linkAt s m) k (strictPart n u) (openPart n now))) where
+    -- one sweep more
+    pub sweeping-both : Both adding n u
+    sweeping-both = both-swept now u (w .both) (e .0) (e .1) el
+
+    pub sweeping-length : length u ≡ length start
+    sweeping-length = el ∙ w .same-length
+
+    swept-more : Swept adding n (linkAt s m) k (strictPart n start) (openPart n start) (strictPart n u) (openPart n u)
+    swept-more = more (w .swept) (e .0) (e .1)
+
+    pub sweeping-more : {next : ℕ} → next ≡ heights adding (n * n) (strictPart n u) + heights adding (n * n) (openPart n u)
+        → Sweeping n (linkAt s m) k start u next
+    sweeping-more f = record { both = sweeping-both; same-length = sweeping-length; swept = swept-more; last-is = f }
+
+    pub sweeping-falls : {next : ℕ} → next ≡ heights adding (n * n) (strictPart n u) + heights adding (n * n) (openPart n u) → next ≤ last
+    sweeping-falls f = omega (arith, heights-fall now u (w .both) (e .0) (e .1), w .last-is)
+
+    -- how they end
+    pub ended-no : Unfair adding n (strictPart n u) ⊎ Unfair adding n (openPart n u) → Ended adding n (linkAt s m) k start u false
+    ended-no b = record { swept = swept-more; quiet = λ f. absurd (true≢false (sym f)); against = λ _. b }
+
+    pub ended-yes : {next : ℕ} → next ≡ heights adding (n * n) (strictPart n u) + heights adding (n * n) (openPart n u) → next ≡ last
+        → Fair adding n (strictPart n u) × Fair adding n (openPart n u) → Ended adding n (linkAt s m) k start u true
+    ended-yes f g b =
+        record {
+          swept = swept-more;
+          quiet = λ _. heights-stay now u (w .both) (e .0) (e .1) (sym f ∙ (g ∙ w .last-is)) (b .0) (b .1);
+          against = λ h. absurd (true≢false h);
         }

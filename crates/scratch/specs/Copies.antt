@@ -26,3 +26,9 @@ pub record Narrowed (m : ℕ) (wide before after : List ℤ) : Type 0 where
 -- no cell of the first m is "beyond 63,000,000"
 abbrev pub InReach : ℕ → List ℤ → Type 0
 InReach m t = (i : ℕ) → i < m → Within (version1 .reach) (cell64 (getD t i (pos zero)))
+
+-- one of them is
+pub record OutOfReach (m : ℕ) (t : List ℤ) : Type 0 where
+  pub index : ℕ
+  pub below : index < m
+  pub out : Within (version1 .reach) (cell64 (getD t index (pos zero))) → ⊥

@@ -4,8 +4,8 @@ ghost use Prim.Native.Nat.{_≤_, _<_};
 ghost use lib.ListN.{length, getD, set};
 ghost use lib.IntN.{pos};
 ghost use Rattle.rules.specs.Calls.{Filled};
-ghost use Rattle.cell.specs.Steps.{Decides};
-ghost use Rattle.scratch.specs.Copies.{Widened, Narrowed, InReach};
+ghost use Rattle.tables.specs.Fair.{Looked};
+ghost use Rattle.scratch.specs.Copies.{Widened, Narrowed, InReach, OutOfReach};
 use cell::Cell32;
 use cell::wide::Cell64;
 use wide::cell_at;
@@ -63,7 +63,7 @@ pub fn narrow(t: &[i64], table: &mut [i32], count: usize)
 // Whether closed tables may hold each of the first cells.
 pub fn all_in_reach(t: &[i64], count: usize) -> bool
     requires { ⌜ count ≤ length (now t) ⌝ }
-    ensures { λ r. ⌜ Decides r (InReach count (now (t .entry))) ⌝ }
+    ensures { λ r. ⌜ Looked r (InReach count (now (t .entry))) (OutOfReach count (now (t .entry))) ⌝ }
 {
     let mut i = 0;
     while i < count {

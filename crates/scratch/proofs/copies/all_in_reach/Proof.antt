@@ -1,4 +1,4 @@
--- `copies::all_in_reach` meets its contract: every cell passed is in reach, and one that is not refutes it. Assumes nothing.
+-- `copies::all_in_reach` meets its contract: every cell passed is in reach, and one that is not is shown. Assumes nothing.
 use borrow.Author.Needs.{needs}
 use Prim.Native.Nat.{ℕ, _*_, _-_, _≤_, _<_}
 use native.Mathlib.Omega.{arith}
@@ -9,7 +9,7 @@ use lib.IntN.{pos}
 use Rattle.rules.specs.Cells.{Within}
 use Rattle.rules.specs.Plan.{version1}
 use Rattle.cell.specs.Steps.{cell64}
-use Rattle.cell.proofs.Laws.{decided-yes, decided-no}
+use Rattle.tables.proofs.Seen.{looked-yes, looked-no}
 use Rattle.scratch.proofs.copies.all_in_reach.Statement.{statement}
 use Rattle.scratch.proofs.copies.all_in_reach.Tie as tie
 
@@ -37,7 +37,12 @@ returns c =
     let cell-at = c .before .before .cell-at in
     let in-reach = c .before .in-reach in
     let if1 = c .if1 in
-    decided-no (λ h. in-reach .ensures .fails (not-true (in-reach .result) (if1 .taken)) (rw (cell-at .ensures) (h (loop .i) (omega arith))))
+    looked-no
+    (record {
+      index = loop .i;
+      below = omega arith;
+      out = λ h. in-reach .ensures .fails (not-true (in-reach .result) (if1 .taken)) (rw (cell-at .ensures) h);
+    })
 
 add-i : tie.Need-add-i Inv-loop μ-loop
 add-i c = search needs
@@ -56,7 +61,7 @@ loop-again c =
 returns-2 : tie.Need-returns-2 Inv-loop μ-loop
 returns-2 c =
     let loop = c .before .loop in
-    decided-yes (λ j h. loop .inv .1 j (omega arith))
+    looked-yes (λ j h. loop .inv .1 j (omega arith))
 
 pub all-in-reach-spec : {M : Type 1} → statement M
 all-in-reach-spec =
