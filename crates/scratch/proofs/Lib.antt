@@ -2,3 +2,5 @@
 pub mod Copying
 pub mod Parts
 pub mod Sweeps
+pub mod Begins
+pub mod Ends

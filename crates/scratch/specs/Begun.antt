@@ -16,6 +16,4 @@ pub record Begun (n : ℕ) (m : Limit) (table before after : List ℤ) : Type 0 
   pub room : n * n ≤ length cells
   pub same : (x y : ℕ) → x < n → y < n → tableOf adding n cells x y ≡ tableOf version1 n table x y
   pub strict-is : strictPart n after ≡ limitCell adding n m cells
-  pub beyond : List ℤ
-  pub beyond-is : beyond ≡ openPart n before
-  pub open-is : openPart n after ≡ firstOpen adding n beyond
+  pub open-is : openPart n after ≡ firstOpen adding n (openPart n before)

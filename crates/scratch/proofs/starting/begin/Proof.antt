@@ -1,35 +1,37 @@
+-- `starting::begin` meets its contract: the cells, then the limit, then the first open table. Assumes nothing.
+use Rattle.plan.specs.Values.{limitOf}
+use native.Mathlib.Omega.{arith}
+use Rattle.scratch.proofs.Begins.{widened-sound, begun-of}
 use borrow.Author.Needs.{needs}
 use Rattle.scratch.proofs.starting.begin.Statement.{statement}
 use Rattle.scratch.proofs.starting.begin.Tie as tie
-use Rattle.scratch.proofs.starting.begin.Reads as reads
-use Rattle.scratch.proofs.starting.begin.Lts as lts
-use Rattle.scratch.proofs.copies.widen.Reads as widen-reads
-use Rattle.scratch.proofs.starting.limit_part.Reads as limit-part-reads
-use Rattle.scratch.proofs.starting.open_part.Reads as open-part-reads
 
--- src/starting.rt:41:17
 mul-cells : tie.Need-mul-cells
 mul-cells c = search needs
 
--- src/starting.rt:42:5
 widen-requires : tie.Need-widen-requires
 widen-requires c κs = search needs
 
--- src/starting.rt:43:5
 limit-part-requires : tie.Need-limit-part-requires
-limit-part-requires c κs = ?
+limit-part-requires c κs =
+    let s = c .before .before .before .before in
+    let widen = c .before .before .widen in
+    (s .pre .0, s .pre .1, omega (arith, s .pre .3, widen .kept .1 .0), widened-sound (s .args .n) (s .pre .3) (widen .ensures) (s .pre .4))
 
--- src/starting.rt:44:5
 open-part-requires : tie.Need-open-part-requires
 open-part-requires c κs = search needs
 
--- src/starting.rt:37:1
 same-length : tie.Need-same-length
 same-length c = search needs
 
--- src/starting.rt:37:1
 returns : tie.Need-returns
-returns c = ?
+returns c =
+    let s = c .before .before .before .before .before .before .before .before .before in
+    let widen = c .before .before .before .before .before .before .before .widen in
+    let limit-part = c .before .before .before .before .limit-part in
+    let open-part = c .before .open-part in
+    begun-of (s .args .n) (s .pre .3) (widen .ensures) (limitOf (s .args .l)) (limit-part .last .0) (open-part .last .0) (limit-part .ensures .0) (limit-part .ensures .1)
+    (open-part .ensures .0) (open-part .ensures .1)
 
 pub begin-spec : {M : Type 1} → statement M
 begin-spec =
