@@ -8,6 +8,8 @@ use native.Mathlib.Omega.{arith}
 use lib.ListN.{length, drop, getD, length-drop}
 use lib.Seq.{getD-take, getD-drop}
 use lib.IntN.{ℤ, pos}
+use lib.Signed.{_≤ℤ_, _<ℤ_}
+use Rattle.whole.proofs.Order.{ints, split}
 use Rattle.whole.proofs.Place.{inside, Spot, spot}
 use Rattle.rules.specs.Plan.{Limit, Link, Plan, Ranges, Coherent, version1, InRange, LimitInRange}
 use Rattle.rules.specs.Walks.{Uncontrollable}
@@ -150,3 +152,94 @@ module _ (p : Plan) (g : InRange version1 p) (link : ℕ → Link) (links : ℕ)
     pub ends-kept : length t₂ ≡ length t → Kept (p .points * p .points + p .points * p .points) t t₂
     unfolding q
     ends-kept e = kept-whole (p .points * p .points) e (kept-trans first-kept (swept-kept q link links q-links q-pointed first (d .swept)))
+
+-- ---- the result, in the paper's tables
+
+module _ (p : Plan) (t : List ℤ) where
+  -- a cell of a part is a cell of the whole
+  strict-cell : (x y : ℕ) → x < p .points → y < p .points
+      → tableOf adding (p .points) (strictPart (p .points) t) x y ≡ cell64 (getD t (x * p .points + y) (pos zero))
+  unfolding tableOf
+  strict-cell x y hx hy = ap cell64 (getD-take (p .points * p .points) t (x * p .points + y) (pos zero) (inside hx hy))
+
+  open-cell : (x y : ℕ)
+      → tableOf adding (p .points) (openPart (p .points) t) x y ≡ cell64 (getD t (p .points * p .points + (x * p .points + y)) (pos zero))
+  unfolding tableOf
+  open-cell x y = ap cell64 (getD-drop (p .points * p .points) t (x * p .points + y) (pos zero))
+
+  -- a cell out of reach is one of a table's
+  pub out-beyond : OutOfReach (p .points * p .points + p .points * p .points) t
+      → Beyond version1 p (tableOf adding (p .points) (strictPart (p .points) t)) (tableOf adding (p .points) (openPart (p .points) t))
+  out-beyond o = ⊎-elim after before (split (pos (p .points * p .points)) (pos (o .index)))
+    where
+      after : pos (p .points * p .points) ≤ℤ pos (o .index)
+          → Beyond version1 p (tableOf adding (p .points) (strictPart (p .points) t)) (tableOf adding (p .points) (openPart (p .points) t))
+      after h =
+          let at : Spot (p .points) (o .index - p .points * p .points) =
+          spot (p .points) (o .index - p .points * p .points) (omega (ints, h, o .below)) in
+          let place : p .points * p .points + (at .row * p .points + at .column) ≡ o .index = omega (ints, h, at .is) in
+          record {
+            row = at .row;
+            column = at .column;
+            row-below = at .row-below;
+            column-below = at .column-below;
+            beyond = inr (λ w.
+                o .out
+                (subst (λ (j : ℕ). Within (version1 .reach) (cell64 (getD t j (pos zero)))) place
+                (subst (Within (version1 .reach)) (open-cell (at .row) (at .column)) w)));
+          }
+
+      before : pos (o .index) <ℤ pos (p .points * p .points)
+          → Beyond version1 p (tableOf adding (p .points) (strictPart (p .points) t)) (tableOf adding (p .points) (openPart (p .points) t))
+      before h =
+          let at : Spot (p .points) (o .index) = spot (p .points) (o .index) (omega (ints, h)) in
+          record {
+            row = at .row;
+            column = at .column;
+            row-below = at .row-below;
+            column-below = at .column-below;
+            beyond = inl (λ w.
+                o .out
+                (subst (λ (j : ℕ). Within (version1 .reach) (cell64 (getD t j (pos zero)))) (sym (at .is))
+                (subst (Within (version1 .reach)) (strict-cell (at .row) (at .column) (at .row-below) (at .column-below)) w)));
+          }
+
+  module _ {strict weak strict′ weak′ : List ℤ} (a : Narrowed (p .points * p .points) t strict strict′)
+      (b : Narrowed (p .points * p .points) (openPart (p .points) t) weak weak′) where
+    -- both tables hold what the parts hold
+    strict-same : (x y : ℕ) → x < p .points → y < p .points
+        → tableOf adding (p .points) (strictPart (p .points) t) x y ≡ tableOf version1 (p .points) strict′ x y
+    strict-same x y hx hy =
+        same-table (p .points) (strictPart (p .points) t) strict′
+        (λ i h. ap cell64 (getD-take (p .points * p .points) t i (pos zero) h) ∙ a .same i h) x y hx hy
+
+    open-same : (x y : ℕ) → x < p .points → y < p .points
+        → tableOf adding (p .points) (openPart (p .points) t) x y ≡ tableOf version1 (p .points) weak′ x y
+    open-same = same-table (p .points) (openPart (p .points) t) weak′ (b .same)
+
+    -- so they are the tables
+    pub tables-written : (q : Plan) → q .points ≡ p .points
+        → Tables q (tableOf adding (p .points) (strictPart (p .points) t)) (tableOf adding (p .points) (openPart (p .points) t))
+        → Tables q (tableOf version1 (p .points) strict′) (tableOf version1 (p .points) weak′)
+    tables-written q e h =
+        record {
+          strict-least = λ x y hx hy. subst (Least (Derivable q) x y) (strict-same x y (rw e at hx) (rw e at hy)) (h .strict-least x y hx hy);
+          open-least = λ x y hx hy. subst (Least (Open q) x y) (open-same x y (rw e at hx) (rw e at hy)) (h .open-least x y hx hy);
+        }
+
+    -- and none of their cells is beyond the reach
+    pub none-beyond : InReach (p .points * p .points + p .points * p .points) t
+        → Beyond version1 p (tableOf version1 (p .points) strict′) (tableOf version1 (p .points) weak′) → ⊥
+    none-beyond r o =
+        let i : o .row * p .points + o .column < p .points * p .points = inside (o .row-below) (o .column-below) in
+        ⊎-elim
+        (λ f.
+        f
+        (subst (Within (version1 .reach))
+        (sym (strict-cell (o .row) (o .column) (o .row-below) (o .column-below)) ∙ strict-same (o .row) (o .column) (o .row-below) (o .column-below))
+        (r (o .row * p .points + o .column) (omega arith))))
+        (λ f.
+        f
+        (subst (Within (version1 .reach)) (sym (open-cell (o .row) (o .column)) ∙ open-same (o .row) (o .column) (o .row-below) (o .column-below))
+        (r (p .points * p .points + (o .row * p .points + o .column)) (omega arith))))
+        (o .beyond)
