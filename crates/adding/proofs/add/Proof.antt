@@ -1,72 +1,108 @@
+-- `adding::add` meets its contract: the file's answer with the limit, room, and the rest. Assumes nothing.
+use native.Mathlib.Omega.{arith}
+use Rattle.rules.specs.Plan.{Limit}
+use Rattle.adding.proofs.Answered.{file-refused, file-done, cells-small, strict-short, open-short, scratch-short, lent}
 use borrow.Author.Needs.{needs}
 use Rattle.adding.proofs.add.Statement.{statement}
 use Rattle.adding.proofs.add.Tie as tie
-use Rattle.adding.proofs.add.Reads as reads
-use Rattle.adding.proofs.add.Lts as lts
-use Rattle.adding.proofs.add_to.Reads as add-to-reads
-use Rattle.answers.proofs.accepted.Reads as accepted-reads
-use Rattle.plan.proofs.head.Reads as head-reads
-use Rattle.plan.proofs.sound_with.Reads as sound-with-reads
 
--- src/lib.rt:58:9
 sound-with-requires : tie.Need-sound-with-requires
 sound-with-requires c κs = search needs
 
--- src/lib.rt:59:9
 accepted-requires : tie.Need-accepted-requires
 accepted-requires c κs = search needs
 
--- src/lib.rt:60:9
 returns : tie.Need-returns
-returns c = ?
+returns c =
+    let s = c .before .before .before .before in
+    let sound-with = c .before .before .sound-with in
+    let accepted = c .before .accepted in
+    let if1 = c .if1 in
+    file-refused (s .args .file .now) (record { from = s .args .x; to = s .args .y; weight = s .args .w }) (sound-with .result) (sound-with .ensures) (accepted .result) (accepted .ensures) (s .args .strict .now) (s .args .«open» .now) (s .args .cells .now) (if1 .taken)
 
--- src/lib.rt:62:9
 head-requires : tie.Need-head-requires
 head-requires c κs = search needs
 
--- src/lib.rt:63:13
 cast-n : tie.Need-cast-n
 cast-n c = search needs
 
--- src/lib.rt:64:16
 mul-room : tie.Need-mul-room
-mul-room c = ?
+mul-room c =
+    let s = c .before .before .before .before .before .before in
+    let sound-with = c .before .before .before .before .sound-with in
+    let accepted = c .before .before .before .accepted in
+    let if1 = c .before .before .if1 in
+    let head = c .before .head in
+    let l : Limit = record { from = s .args .x; to = s .args .y; weight = s .args .w } in
+    let done = file-done (s .args .file .now) l (sound-with .result) (sound-with .ensures) (accepted .result) (accepted .ensures) (if1 .left) in
+    omega (arith, cells-small (s .args .file .now) l done (head .result) (head .ensures))
 
--- src/lib.rt:66:9
 returns-2 : tie.Need-returns-2
-returns-2 c = ?
+returns-2 c =
+    let s = c .before .before .before .before .before .before .before in
+    let sound-with = c .before .before .before .before .before .sound-with in
+    let accepted = c .before .before .before .before .accepted in
+    let if1 = c .before .before .before .if1 in
+    let head = c .before .before .head in
+    let if2 = c .if2 in
+    let l : Limit = record { from = s .args .x; to = s .args .y; weight = s .args .w } in
+    let done = file-done (s .args .file .now) l (sound-with .result) (sound-with .ensures) (accepted .result) (accepted .ensures) (if1 .left) in
+    strict-short (s .args .file .now) l done (head .result) (head .ensures) (s .args .strict .now) (s .args .«open» .now) (s .args .cells .now) (if2 .taken)
 
--- src/lib.rt:69:9
 returns-3 : tie.Need-returns-3
-returns-3 c = ?
+returns-3 c =
+    let s = c .before .before .before .before .before .before .before .before in
+    let sound-with = c .before .before .before .before .before .before .sound-with in
+    let accepted = c .before .before .before .before .before .accepted in
+    let if1 = c .before .before .before .before .if1 in
+    let head = c .before .before .before .head in
+    let if3 = c .if3 in
+    let l : Limit = record { from = s .args .x; to = s .args .y; weight = s .args .w } in
+    let done = file-done (s .args .file .now) l (sound-with .result) (sound-with .ensures) (accepted .result) (accepted .ensures) (if1 .left) in
+    open-short (s .args .file .now) l done (head .result) (head .ensures) (s .args .strict .now) (s .args .«open» .now) (s .args .cells .now) (if3 .taken)
 
--- src/lib.rt:71:22
 add-if4 : tie.Need-add-if4
 add-if4 c = search needs
 
--- src/lib.rt:72:9
 returns-4 : tie.Need-returns-4
-returns-4 c = ?
+returns-4 c =
+    let s = c .before .before .before .before .before .before .before .before .before in
+    let sound-with = c .before .before .before .before .before .before .before .sound-with in
+    let accepted = c .before .before .before .before .before .before .accepted in
+    let if1 = c .before .before .before .before .before .if1 in
+    let head = c .before .before .before .before .head in
+    let if4 = c .if4 in
+    let l : Limit = record { from = s .args .x; to = s .args .y; weight = s .args .w } in
+    let done = file-done (s .args .file .now) l (sound-with .result) (sound-with .ensures) (accepted .result) (accepted .ensures) (if1 .left) in
+    scratch-short (s .args .file .now) l done (head .result) (head .ensures) (s .args .strict .now) (s .args .«open» .now) (s .args .cells .now) (if4 .taken)
 
--- src/lib.rt:79:5
 add-to-requires : tie.Need-add-to-requires
-add-to-requires c κs = ?
+add-to-requires c κs =
+    let s = c .before .before .before .before .before .before .before .before .before .before .before .before in
+    let sound-with = c .before .before .before .before .before .before .before .before .before .before .sound-with in
+    let accepted = c .before .before .before .before .before .before .before .before .before .accepted in
+    let if1 = c .before .before .before .before .before .before .before .before .if1 in
+    let head = c .before .before .before .before .before .before .before .head in
+    let if2 = c .before .before .before .before .before .if2 in
+    let if3 = c .before .before .before .before .if3 in
+    let if4 = c .before .before .before .if4 in
+    let l : Limit = record { from = s .args .x; to = s .args .y; weight = s .args .w } in
+    let done = file-done (s .args .file .now) l (sound-with .result) (sound-with .ensures) (accepted .result) (accepted .ensures) (if1 .left) in
+    lent (s .args .file .now) l done (head .result) (head .ensures) (s .args .strict .now) (s .args .«open» .now) (s .args .cells .now) (if2 .left) (if3 .left) (if4 .left)
 
--- src/lib.rt:55:1
 same-length : tie.Need-same-length
 same-length c = search needs
 
--- src/lib.rt:55:1
 same-length-2 : tie.Need-same-length-2
 same-length-2 c = search needs
 
--- src/lib.rt:55:1
 same-length-3 : tie.Need-same-length-3
 same-length-3 c = search needs
 
--- src/lib.rt:55:1
 returns-5 : tie.Need-returns-5
-returns-5 c = ?
+returns-5 c =
+    let add-to = c .before .before .before .add-to in
+    add-to .ensures
 
 pub add-spec : {M : Type 1} → statement M
 add-spec =

@@ -1,65 +1,58 @@
+-- `adding::add_to` meets its contract: tables that are not closed, or the sweeps. Assumes nothing.
+use borrow.Author.Tests.{not-true, not-false}
+use Rattle.adding.proofs.Answered.{are-not}
 use borrow.Author.Needs.{needs}
 use Rattle.adding.proofs.add_to.Statement.{statement}
 use Rattle.adding.proofs.add_to.Tie as tie
-use Rattle.adding.proofs.add_to.Reads as reads
-use Rattle.adding.proofs.add_to.Lts as lts
-use Rattle.adding.proofs.sweeps.Reads as sweeps-reads
-use Rattle.closed.proofs.closed.Reads as closed-reads
-use Rattle.scratch.proofs.clear.Reads as clear-reads
 
--- src/lib.rt:47:9
 closed-requires : tie.Need-closed-requires
 closed-requires c κs = search needs
 
--- src/lib.rt:48:22
 mul-clear : tie.Need-mul-clear
 mul-clear c = search needs
 
--- src/lib.rt:48:30
 mul-clear-2 : tie.Need-mul-clear-2
 mul-clear-2 c = search needs
 
--- src/lib.rt:48:22
 add-clear : tie.Need-add-clear
 add-clear c = search needs
 
--- src/lib.rt:48:9
 clear-requires : tie.Need-clear-requires
 clear-requires c κs = search needs
 
--- src/lib.rt:49:9
 same-length : tie.Need-same-length
 same-length c = search needs
 
--- src/lib.rt:49:9
 same-length-2 : tie.Need-same-length-2
 same-length-2 c = search needs
 
--- src/lib.rt:49:9
 same-length-3 : tie.Need-same-length-3
 same-length-3 c = search needs
 
--- src/lib.rt:49:9
 returns : tie.Need-returns
-returns c = ?
+returns c =
+    let s = c .before .before .before .before .before .before .before .before in
+    let closed = c .before .before .before .before .closed in
+    let if1 = c .before .before .before .if1 in
+    let clear = c .before .clear in
+    are-not (s .pre) (closed .ensures .fails (not-true (closed .result) (if1 .taken))) (clear .ensures)
 
--- src/lib.rt:51:5
 sweeps-requires : tie.Need-sweeps-requires
-sweeps-requires c κs = ?
+sweeps-requires c κs =
+    let s = c .before .before .before .before .before .before .before .before in
+    let closed = c .before .before .before .before .closed in
+    let if1 = c .before .before .before .if1 in
+    (s .pre, closed .ensures .holds (not-false (closed .result) (if1 .left)))
 
--- src/lib.rt:43:1
 same-length-4 : tie.Need-same-length-4
 same-length-4 c = search needs
 
--- src/lib.rt:43:1
 same-length-5 : tie.Need-same-length-5
 same-length-5 c = search needs
 
--- src/lib.rt:43:1
 same-length-6 : tie.Need-same-length-6
 same-length-6 c = search needs
 
--- src/lib.rt:43:1
 returns-2 : tie.Need-returns-2
 returns-2 c = search needs
 
