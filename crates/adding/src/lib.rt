@@ -21,7 +21,16 @@ use scratch::finish;
 use scratch::settle;
 
 // For closed tables: the sweeps in the scratch, and the tables written where their result is in reach.
-fn sweeps(file: &[u8], n: usize, m: u32, k: u32, l: Limit, strict: &mut [i32], open: &mut [i32], cells: &mut [i64]) -> Answer
+fn sweeps(
+    file: &[u8],
+    n: usize,
+    m: u32,
+    k: u32,
+    l: Limit,
+    strict: &mut [i32],
+    open: &mut [i32],
+    cells: &mut [i64],
+) -> Answer
     requires { ⌜ Lent (now file) n m k (limitOf l) (now strict) (now «open») (now cells) × Closed version1 (planOf (now file)) (tableOf version1 n (now strict)) (tableOf version1 n (now «open»)) ⌝ }
     ensures { λ r. ⌜ Added version1 (addAnswer (now (file .entry)) (limitOf l)) (planOf (now (file .entry))) (limitOf l) (now (strict .entry)) (now («open» .entry)) (now (cells .entry)) r (now (strict .exit)) (now («open» .exit)) (now (cells .exit)) ⌝ }
 {
@@ -40,7 +49,16 @@ fn sweeps(file: &[u8], n: usize, m: u32, k: u32, l: Limit, strict: &mut [i32], o
 }
 
 // With room for all: whether the tables are closed, and the sweeps.
-fn add_to(file: &[u8], n: usize, m: u32, k: u32, l: Limit, strict: &mut [i32], open: &mut [i32], cells: &mut [i64]) -> Answer
+fn add_to(
+    file: &[u8],
+    n: usize,
+    m: u32,
+    k: u32,
+    l: Limit,
+    strict: &mut [i32],
+    open: &mut [i32],
+    cells: &mut [i64],
+) -> Answer
     requires { ⌜ Lent (now file) n m k (limitOf l) (now strict) (now «open») (now cells) ⌝ }
     ensures { λ r. ⌜ Added version1 (addAnswer (now (file .entry)) (limitOf l)) (planOf (now (file .entry))) (limitOf l) (now (strict .entry)) (now («open» .entry)) (now (cells .entry)) r (now (strict .exit)) (now («open» .exit)) (now (cells .exit)) ⌝ }
 {
@@ -52,7 +70,15 @@ fn add_to(file: &[u8], n: usize, m: u32, k: u32, l: Limit, strict: &mut [i32], o
 }
 
 // Add: the limit from x to y of weight w, put on two tables of a plan file.
-pub fn add(file: &[u8], x: u32, y: u32, w: i32, strict: &mut [i32], open: &mut [i32], cells: &mut [i64]) -> Answer
+pub fn add(
+    file: &[u8],
+    x: u32,
+    y: u32,
+    w: i32,
+    strict: &mut [i32],
+    open: &mut [i32],
+    cells: &mut [i64],
+) -> Answer
     ensures { λ r. ⌜ Added version1 (addAnswer (now (file .entry)) (record { from = x; to = y; weight = w })) (planOf (now (file .entry))) (record { from = x; to = y; weight = w }) (now (strict .entry)) (now («open» .entry)) (now (cells .entry)) r (now (strict .exit)) (now («open» .exit)) (now (cells .exit)) ⌝ }
 {
     let a = sound_with(file, x, y, w);

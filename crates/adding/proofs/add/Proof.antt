@@ -1,7 +1,10 @@
 -- `adding::add` meets its contract: the file's answer with the limit, room, and the rest. Assumes nothing.
 use native.Mathlib.Omega.{arith}
+use mir.Syntax.{w32}
+use mir.Val.{toZ, ofZ}
+use Rattle.whole.proofs.Bits.{back}
 use Rattle.rules.specs.Plan.{Limit}
-use Rattle.adding.proofs.Answered.{file-refused, file-done, cells-small, strict-short, open-short, scratch-short, lent}
+use Rattle.adding.proofs.Answered.{file-refused, file-done, cells-small, strict-short, open-short, scratch-short, lent, weight-back}
 use borrow.Author.Needs.{needs}
 use Rattle.adding.proofs.add.Statement.{statement}
 use Rattle.adding.proofs.add.Tie as tie
@@ -18,7 +21,8 @@ returns c =
     let sound-with = c .before .before .sound-with in
     let accepted = c .before .accepted in
     let if1 = c .if1 in
-    file-refused (s .args .file .now) (record { from = s .args .x; to = s .args .y; weight = s .args .w }) (sound-with .result) (sound-with .ensures) (accepted .result) (accepted .ensures) (s .args .strict .now) (s .args .«open» .now) (s .args .cells .now) (if1 .taken)
+    weight-back (s .args .file .now) (s .args .x) (s .args .y) (back (s .fits .w))
+    (file-refused (s .args .file .now) (record { from = s .args .x; to = s .args .y; weight = toZ w32 (ofZ w32 (s .args .w)) }) (sound-with .result) (sound-with .ensures) (accepted .result) (accepted .ensures) (s .args .strict .now) (s .args .«open» .now) (s .args .cells .now) (if1 .taken))
 
 head-requires : tie.Need-head-requires
 head-requires c κs = search needs
@@ -33,7 +37,7 @@ mul-room c =
     let accepted = c .before .before .before .accepted in
     let if1 = c .before .before .if1 in
     let head = c .before .head in
-    let l : Limit = record { from = s .args .x; to = s .args .y; weight = s .args .w } in
+    let l : Limit = record { from = s .args .x; to = s .args .y; weight = toZ w32 (ofZ w32 (s .args .w)) } in
     let done = file-done (s .args .file .now) l (sound-with .result) (sound-with .ensures) (accepted .result) (accepted .ensures) (if1 .left) in
     omega (arith, cells-small (s .args .file .now) l done (head .result) (head .ensures))
 
@@ -45,9 +49,10 @@ returns-2 c =
     let if1 = c .before .before .before .if1 in
     let head = c .before .before .head in
     let if2 = c .if2 in
-    let l : Limit = record { from = s .args .x; to = s .args .y; weight = s .args .w } in
+    let l : Limit = record { from = s .args .x; to = s .args .y; weight = toZ w32 (ofZ w32 (s .args .w)) } in
     let done = file-done (s .args .file .now) l (sound-with .result) (sound-with .ensures) (accepted .result) (accepted .ensures) (if1 .left) in
-    strict-short (s .args .file .now) l done (head .result) (head .ensures) (s .args .strict .now) (s .args .«open» .now) (s .args .cells .now) (if2 .taken)
+    weight-back (s .args .file .now) (s .args .x) (s .args .y) (back (s .fits .w))
+    (strict-short (s .args .file .now) l done (head .result) (head .ensures) (s .args .strict .now) (s .args .«open» .now) (s .args .cells .now) (if2 .taken))
 
 returns-3 : tie.Need-returns-3
 returns-3 c =
@@ -57,9 +62,10 @@ returns-3 c =
     let if1 = c .before .before .before .before .if1 in
     let head = c .before .before .before .head in
     let if3 = c .if3 in
-    let l : Limit = record { from = s .args .x; to = s .args .y; weight = s .args .w } in
+    let l : Limit = record { from = s .args .x; to = s .args .y; weight = toZ w32 (ofZ w32 (s .args .w)) } in
     let done = file-done (s .args .file .now) l (sound-with .result) (sound-with .ensures) (accepted .result) (accepted .ensures) (if1 .left) in
-    open-short (s .args .file .now) l done (head .result) (head .ensures) (s .args .strict .now) (s .args .«open» .now) (s .args .cells .now) (if3 .taken)
+    weight-back (s .args .file .now) (s .args .x) (s .args .y) (back (s .fits .w))
+    (open-short (s .args .file .now) l done (head .result) (head .ensures) (s .args .strict .now) (s .args .«open» .now) (s .args .cells .now) (if3 .taken))
 
 add-if4 : tie.Need-add-if4
 add-if4 c = search needs
@@ -72,9 +78,10 @@ returns-4 c =
     let if1 = c .before .before .before .before .before .if1 in
     let head = c .before .before .before .before .head in
     let if4 = c .if4 in
-    let l : Limit = record { from = s .args .x; to = s .args .y; weight = s .args .w } in
+    let l : Limit = record { from = s .args .x; to = s .args .y; weight = toZ w32 (ofZ w32 (s .args .w)) } in
     let done = file-done (s .args .file .now) l (sound-with .result) (sound-with .ensures) (accepted .result) (accepted .ensures) (if1 .left) in
-    scratch-short (s .args .file .now) l done (head .result) (head .ensures) (s .args .strict .now) (s .args .«open» .now) (s .args .cells .now) (if4 .taken)
+    weight-back (s .args .file .now) (s .args .x) (s .args .y) (back (s .fits .w))
+    (scratch-short (s .args .file .now) l done (head .result) (head .ensures) (s .args .strict .now) (s .args .«open» .now) (s .args .cells .now) (if4 .taken))
 
 add-to-requires : tie.Need-add-to-requires
 add-to-requires c κs =
@@ -86,7 +93,7 @@ add-to-requires c κs =
     let if2 = c .before .before .before .before .before .if2 in
     let if3 = c .before .before .before .before .if3 in
     let if4 = c .before .before .before .if4 in
-    let l : Limit = record { from = s .args .x; to = s .args .y; weight = s .args .w } in
+    let l : Limit = record { from = s .args .x; to = s .args .y; weight = toZ w32 (ofZ w32 (s .args .w)) } in
     let done = file-done (s .args .file .now) l (sound-with .result) (sound-with .ensures) (accepted .result) (accepted .ensures) (if1 .left) in
     lent (s .args .file .now) l done (head .result) (head .ensures) (s .args .strict .now) (s .args .«open» .now) (s .args .cells .now) (if2 .left) (if3 .left) (if4 .left)
 
@@ -101,8 +108,9 @@ same-length-3 c = search needs
 
 returns-5 : tie.Need-returns-5
 returns-5 c =
+    let s = c .before .before .before .before .before .before .before .before .before .before .before .before .before .before .before .before in
     let add-to = c .before .before .before .add-to in
-    add-to .ensures
+    weight-back (s .args .file .now) (s .args .x) (s .args .y) (back (s .fits .w)) (add-to .ensures)
 
 pub add-spec : {M : Type 1} → statement M
 add-spec =

@@ -76,9 +76,13 @@ finish-requires c κs =
     let begin = c .before .before .before .before .before .before .before .before .before .before .before .begin in
     let settle = c .before .before .before .before .before .before .before .before .settle in
     let all-in-reach = c .before .before .before .before .all-in-reach in
-    let if2 = c .before .before .before .if2 in
-    (few (s .pre .0 .ready), omega (arith, s .pre .0 .scratch-room, settle .kept .1 .1 .1 .1 .0, begin .kept .1 .0), s .pre .0 .strict-room, s .pre .0 .open-room,
-    all-in-reach .ensures .holds (not-false (all-in-reach .result) (if2 .left)))
+    let if2 = c .before .before .before .if2 in (
+      few (s .pre .0 .ready),
+      omega (arith, s .pre .0 .scratch-room, settle .kept .1 .1 .1 .1 .0, begin .kept .1 .0),
+      s .pre .0 .strict-room,
+      s .pre .0 .open-room,
+      all-in-reach .ensures .holds (not-false (all-in-reach .result) (if2 .left)),
+    )
 
 same-length-5 : tie.Need-same-length-5
 same-length-5 c = search needs

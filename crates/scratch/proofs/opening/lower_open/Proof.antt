@@ -37,11 +37,12 @@ returns c =
     let s = c .before .before .before in
     let lower-cell = c .before .lower-cell in
     let cells = s .args .n * s .args .n in
-    let half : cells ≤ length (s .args .t .now) = omega (arith, s .pre .3) in
-    (take-put cells (length (s .args .t .now) - cells) (s .args .t .now) (lower-cell .last .0) half,
-    rest-back cells (s .args .t .now) (lower-cell .last .0) half
-    ∙ (lower-cell .ensures
-    ∙ ap (lowerCell adding (s .args .n) (s .args .x) (s .args .y) (cell64 (s .args .c .v))) (rest cells (s .args .t .now))))
+    let half : cells ≤ length (s .args .t .now) = omega (arith, s .pre .3) in (
+      take-put cells (length (s .args .t .now) - cells) (s .args .t .now) (lower-cell .last .0) half,
+      rest-back cells (s .args .t .now) (lower-cell .last .0) half
+          ∙ (lower-cell .ensures
+          ∙ ap (lowerCell adding (s .args .n) (s .args .x) (s .args .y) (cell64 (s .args .c .v))) (rest cells (s .args .t .now))),
+    )
 
 pub lower-open-spec : {M : Type 1} → statement M
 lower-open-spec =

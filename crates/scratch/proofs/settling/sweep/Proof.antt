@@ -19,10 +19,11 @@ sweep-last-requires : tie.Need-sweep-last-requires
 sweep-last-requires c κs =
     let s = c .before .before .before .before .before .before .before .before in
     let sweep-first = c .before .before .before .before .before .sweep-first in
-    let open-under = c .before .before .open-under in
-    (s .pre .0,
-    both-under (s .pre .0) (both-first (s .pre .0) (s .pre .1) (sweep-first .kept .1 .1 .1 .1 .0) (sweep-first .ensures .0) (sweep-first .ensures .1))
-    (open-under .kept .0) (open-under .ensures .0) (open-under .ensures .1))
+    let open-under = c .before .before .open-under in (
+      s .pre .0,
+      both-under (s .pre .0) (both-first (s .pre .0) (s .pre .1) (sweep-first .kept .1 .1 .1 .1 .0) (sweep-first .ensures .0) (sweep-first .ensures .1))
+          (open-under .kept .0) (open-under .ensures .0) (open-under .ensures .1),
+    )
 
 same-length : tie.Need-same-length
 same-length c = search needs
@@ -32,10 +33,11 @@ returns c =
     let s = c .before .before .before .before .before .before .before .before .before .before in
     let sweep-first = c .before .before .before .before .before .before .before .sweep-first in
     let open-under = c .before .before .before .before .open-under in
-    let sweep-last = c .before .sweep-last in
-    (sweep-last .ensures .0 ∙ (open-under .ensures .0 ∙ sweep-first .ensures .0),
-    open-swept (s .pre .0) (s .args .t .now) (sweep-first .last .1 .1 .1 .1 .0) (open-under .last .0) (sweep-last .last .1 .1 .1 .1 .0)
-    (sweep-first .ensures .1) (open-under .ensures .0) (open-under .ensures .1) (sweep-last .ensures .0) (sweep-last .ensures .1))
+    let sweep-last = c .before .sweep-last in (
+      sweep-last .ensures .0 ∙ (open-under .ensures .0 ∙ sweep-first .ensures .0),
+      open-swept (s .pre .0) (s .args .t .now) (sweep-first .last .1 .1 .1 .1 .0) (open-under .last .0) (sweep-last .last .1 .1 .1 .1 .0)
+          (sweep-first .ensures .1) (open-under .ensures .0) (open-under .ensures .1) (sweep-last .ensures .0) (sweep-last .ensures .1),
+    )
 
 pub sweep-spec : {M : Type 1} → statement M
 sweep-spec =

@@ -28,9 +28,10 @@ returns c =
     let s = c .before .before .before .before in
     let sweep-strict = c .before .sweep-strict in
     let cells = s .args .n * s .args .n in
-    let half = half-room (s .pre .1) in
-    (front-back cells (s .args .t .now) (sweep-strict .last .1 .1 .1 .1 .0) half (sweep-strict .kept .1 .1 .1 .1 .0) ∙ sweep-strict .ensures,
-    front-rest cells (s .args .t .now) (sweep-strict .last .1 .1 .1 .1 .0) half (sweep-strict .kept .1 .1 .1 .1 .0))
+    let half = half-room (s .pre .1) in (
+      front-back cells (s .args .t .now) (sweep-strict .last .1 .1 .1 .1 .0) half (sweep-strict .kept .1 .1 .1 .1 .0) ∙ sweep-strict .ensures,
+      front-rest cells (s .args .t .now) (sweep-strict .last .1 .1 .1 .1 .0) half (sweep-strict .kept .1 .1 .1 .1 .0),
+    )
 
 pub sweep-first-spec : {M : Type 1} → statement M
 sweep-first-spec =

@@ -39,11 +39,12 @@ returns c =
     let s = c .before .before .before .before in
     let join-cases = c .before .join-cases in
     let cells = s .args .n * s .args .n in
-    let half = half-room (s .pre .1) in
-    (take-put cells (length (s .args .t .now) - cells) (s .args .t .now) (join-cases .last .1 .1 .1 .1 .0) half,
-    rest-back cells (s .args .t .now) (join-cases .last .1 .1 .1 .1 .0) half
-    ∙ (join-cases .ensures
-    ∙ ap (λ u. joinAll adding (s .args .n) (caseAll adding (s .args .n) (linkAt (s .args .file .now) (s .args .m)) (s .args .k) u)) (rest cells (s .args .t .now))))
+    let half = half-room (s .pre .1) in (
+      take-put cells (length (s .args .t .now) - cells) (s .args .t .now) (join-cases .last .1 .1 .1 .1 .0) half,
+      rest-back cells (s .args .t .now) (join-cases .last .1 .1 .1 .1 .0) half
+          ∙ (join-cases .ensures
+          ∙ ap (λ u. joinAll adding (s .args .n) (caseAll adding (s .args .n) (linkAt (s .args .file .now) (s .args .m)) (s .args .k) u)) (rest cells (s .args .t .now))),
+    )
 
 pub sweep-last-spec : {M : Type 1} → statement M
 sweep-last-spec =

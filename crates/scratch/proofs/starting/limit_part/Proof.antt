@@ -30,9 +30,10 @@ returns c =
     let s = c .before .before .before in
     let limit-cell = c .before .limit-cell in
     let cells = s .args .n * s .args .n in
-    let half : cells ≤ length (s .args .t .now) = omega (arith, s .pre .2) in
-    (front-back cells (s .args .t .now) (limit-cell .last .0) half (limit-cell .kept .0) ∙ limit-cell .ensures,
-    front-rest cells (s .args .t .now) (limit-cell .last .0) half (limit-cell .kept .0))
+    let half : cells ≤ length (s .args .t .now) = omega (arith, s .pre .2) in (
+      front-back cells (s .args .t .now) (limit-cell .last .0) half (limit-cell .kept .0) ∙ limit-cell .ensures,
+      front-rest cells (s .args .t .now) (limit-cell .last .0) half (limit-cell .kept .0),
+    )
 
 pub limit-part-spec : {M : Type 1} → statement M
 limit-part-spec =

@@ -37,10 +37,11 @@ returns c =
     let s = c .before .before .before in
     let first-open = c .before .first-open in
     let cells = s .args .n * s .args .n in
-    let half : cells ≤ length (s .args .t .now) = omega (arith, s .pre .1) in
-    (take-put cells (length (s .args .t .now) - cells) (s .args .t .now) (first-open .last .0) half,
-    rest-back cells (s .args .t .now) (first-open .last .0) half
-    ∙ (first-open .ensures ∙ ap (firstOpen adding (s .args .n)) (rest cells (s .args .t .now))))
+    let half : cells ≤ length (s .args .t .now) = omega (arith, s .pre .1) in (
+      take-put cells (length (s .args .t .now) - cells) (s .args .t .now) (first-open .last .0) half,
+      rest-back cells (s .args .t .now) (first-open .last .0) half
+          ∙ (first-open .ensures ∙ ap (firstOpen adding (s .args .n)) (rest cells (s .args .t .now))),
+    )
 
 pub open-part-spec : {M : Type 1} → statement M
 open-part-spec =
