@@ -1,7 +1,7 @@
 // The 64-bit twin of the cell of lib.rt, for the tables that Add works in.
 use crate::Cell32;
 ghost use mathlib.Core.Path.{_≡_};
-ghost use Prim.Native.Nat.{_≤_};
+ghost use Prim.Native.Nat.{ℕ, _≤_};
 ghost use lib.IntN.{pos, negℤ, _+ℤ_, _-ℤ_};
 ghost use lib.Signed.{ltZ};
 ghost use mir.Syntax.{w64};
@@ -86,12 +86,10 @@ impl Cell64 {
         self.v < o.v
     }
 
-    // Whether closed tables of the paper may hold this cell.
-    pub fn in_reach(self) -> bool
-        ensures { λ r. ⌜ Decides r (Within (version1 .reach) (cell64 (self .v))) ⌝ }
+    // Whether the cell is the mark, or a number from the least to the most.
+    fn between(self, least: Cell64, most: Cell64) -> bool
+        ensures { λ r. ⌜ ((n : ℕ) → least .v ≡ negℤ (pos n) → most .v ≡ pos n → Decides r (Within n (cell64 (self .v)))) ⌝ }
     {
-        let most = Cell64 { v: 63000000 };
-        let least = Cell64 { v: -63000000 };
         if self.is_mark() {
             return true;
         }
@@ -102,6 +100,20 @@ impl Cell64 {
             return false;
         }
         true
+    }
+
+    // Whether closed tables of the paper may hold this cell.
+    pub fn in_reach(self) -> bool
+        ensures { λ r. ⌜ Decides r (Within (version1 .reach) (cell64 (self .v))) ⌝ }
+    {
+        self.between(Cell64 { v: -63000000 }, Cell64 { v: 63000000 })
+    }
+
+    // Whether tables of Add's plan may hold it.
+    pub fn in_wide_reach(self) -> bool
+        ensures { λ r. ⌜ Decides r (Within (adding .reach) (cell64 (self .v))) ⌝ }
+    {
+        self.between(Cell64 { v: -3969000000 }, Cell64 { v: 3969000000 })
     }
 
     // The smaller of two cells.

@@ -1,13 +1,14 @@
 // The calls as C calls them (include/post.h). An answer passes as one 64-bit number.
 ghost use mathlib.Core.Path.{_≡_};
 ghost use Rattle.rules.specs.Plan.{version1};
-ghost use Rattle.rules.specs.Calls.{Judged, Checked, Timed};
+ghost use Rattle.rules.specs.Calls.{Judged, Checked, Timed, Added};
 ghost use Rattle.plan.specs.Layout.{planOf};
-ghost use Rattle.plan.specs.File.{fileAnswer};
-ghost use Rattle.post.specs.Faces.{packedOf, Packed};
+ghost use Rattle.plan.specs.File.{fileAnswer, addAnswer};
+ghost use Rattle.post.specs.Faces.{packedOf, Packed, PackedAdd};
 use crate::check;
 use crate::judging::judge;
 use crate::timing::earliest;
+use adding::add;
 use answers::code;
 use answers::place;
 use rules::Answer;
@@ -46,4 +47,12 @@ pub extern "C" fn post_earliest(
     ensures { λ r. ⌜ Packed (λ a. Timed version1 (fileAnswer (now (file .entry))) (planOf (now (file .entry))) (now (strict .entry)) (now («open» .entry)) (now (times .entry)) a (now (strict .exit)) (now («open» .exit)) (now (times .exit))) r ⌝ }
 {
     packed(earliest(file, strict, open, times))
+}
+
+// Add.
+#[no_mangle]
+pub extern "C" fn post_add(file: &[u8], x: u32, y: u32, w: i32, strict: &mut [i32], open: &mut [i32], scratch: &mut [i64]) -> u64
+    ensures { λ r. ⌜ PackedAdd (Added version1 (addAnswer (now (file .entry)) (record { from = x; to = y; weight = w })) (planOf (now (file .entry))) (record { from = x; to = y; weight = w }) (now (strict .entry)) (now («open» .entry)) (now (scratch .entry))) r (now (strict .exit)) (now («open» .exit)) (now (scratch .exit)) ⌝ }
+{
+    packed(add(file, x, y, w, strict, open, scratch))
 }

@@ -46,7 +46,7 @@ in-wide : {a b : ℕ} {w : ℤ} → a ≤ b → negℤ (pos a) ≤ℤ w → neg�
 in-wide {a} {b} h l = omega (ints, neg (pos a), neg (pos b))
 
 -- the closed range is the largest weight that Add meets, and holds a file's weights
-weights-held : version1 .weight ≤ adding .weight
+pub weights-held : version1 .weight ≤ adding .weight
 unfolding version1 adding
 weights-held = omega arith
 

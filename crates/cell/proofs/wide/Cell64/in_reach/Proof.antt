@@ -1,46 +1,16 @@
--- `Cell64::in_reach` meets its contract: the mark is in the reach of the paper, and a number where no test against an end holds. Assumes nothing.
+-- `Cell64::in_reach` meets its contract: the ends are those of the reach. Assumes nothing.
 use borrow.Author.Needs.{needs}
-use mathlib.Core.Path.{_≡_}
-use Rattle.whole.proofs.Bits.{tested}
+use mathlib.Core.Path.{refl}
 use Rattle.rules.specs.Plan.{version1}
-use Rattle.rules.specs.Cells.{num}
-use Rattle.cell.specs.Steps.{adding, cell64}
-use Rattle.cell.proofs.Laws.{is-mark, no-mark, reach-mark, reach-above, reach-below, reach-within}
 use Rattle.cell.proofs.wide.Cell64.in_reach.Statement.{statement}
 use Rattle.cell.proofs.wide.Cell64.in_reach.Tie as tie
 
-cell : (c : tie.Else1) → cell64 (c .before .before .args .self .v) ≡ num (c .before .before .args .self .v)
-cell c = no-mark (adding .mark) (c .before .before .args .self .v) (c .before .is-mark .ensures) (c .if1 .left)
-
-is-mark-requires : tie.Need-is-mark-requires
-is-mark-requires c κs = search needs
+between-requires : tie.Need-between-requires
+between-requires c κs = search needs
 
 returns : tie.Need-returns
-returns c = reach-mark (version1 .reach) (cell64 (c .before .before .args .self .v)) (is-mark (c .before .is-mark .ensures) (c .if1 .taken))
-
-less-requires : tie.Need-less-requires
-less-requires c κs = search needs
-
-returns-2 : tie.Need-returns-2
 unfolding version1
-returns-2 c = reach-above (version1 .reach) (cell (c .before .before)) (tested (c .before .less .ensures) (c .if2 .taken))
-
-less-requires-2 : tie.Need-less-requires-2
-less-requires-2 c κs = search needs
-
-returns-3 : tie.Need-returns-3
-unfolding version1
-returns-3 c = reach-below (version1 .reach) (cell (c .before .before .before .before)) (tested (c .before .less2 .ensures) (c .if3 .taken))
-
-returns-4 : tie.Need-returns-4
-unfolding version1
-returns-4 c =
-    let s = c .before .before in
-    let f = tested (s .before .less .ensures) (s .if2 .left) in
-    let g = tested (c .before .less2 .ensures) (c .if3 .left) in
-    reach-within (version1 .reach) (cell (s .before .before)) f g
+returns c = c .between .ensures (version1 .reach) refl refl
 
 pub in-reach-spec : {M : Type 1} → statement M
-in-reach-spec =
-    tie.close
-    (tie.spec is-mark-requires returns less-requires returns-2 less-requires-2 returns-3 returns-4)
+in-reach-spec = tie.close (tie.spec between-requires returns)

@@ -1,0 +1,2 @@
+-- Laws behind Add.
+pub mod Answered

@@ -1,0 +1,130 @@
+-- `adding::sweeps` meets its contract: refused, out of reach, or taken. Assumes nothing.
+use mathlib.Core.Path.{_∙_}
+use borrow.Author.Tests.{not-true, not-false}
+use native.Mathlib.Omega.{arith}
+use Rattle.tables.proofs.Links.{few}
+use Rattle.adding.proofs.Answered.{start-within, started, refused, out, taken}
+use borrow.Author.Needs.{needs}
+use Rattle.adding.proofs.sweeps.Statement.{statement}
+use Rattle.adding.proofs.sweeps.Tie as tie
+
+mul-room : tie.Need-mul-room
+mul-room c = search needs
+
+mul-room-2 : tie.Need-mul-room-2
+mul-room-2 c = search needs
+
+add-room : tie.Need-add-room
+add-room c = search needs
+
+begin-requires : tie.Need-begin-requires
+begin-requires c κs =
+    let s = c .before .before .before in
+    (few (s .pre .0 .ready), s .pre .0 .limit, s .pre .0 .strict-room, s .pre .0 .scratch-room, start-within (s .pre .0) (s .pre .1))
+
+settle-requires : tie.Need-settle-requires
+settle-requires c κs =
+    let s = c .before .before .before .before .before .before in
+    let begin = c .before .before .begin in
+    (s .pre .0 .ready, started (s .pre .0) (s .pre .1) (begin .ensures) (begin .kept .1 .0))
+
+clear-requires : tie.Need-clear-requires
+clear-requires c κs = search needs
+
+same-length : tie.Need-same-length
+same-length c = search needs
+
+same-length-2 : tie.Need-same-length-2
+same-length-2 c = search needs
+
+returns : tie.Need-returns
+returns c =
+    let s = c .before .before .before .before .before .before .before .before .before .before .before .before in
+    let begin = c .before .before .before .before .before .before .before .before .begin in
+    let settle = c .before .before .before .before .before .settle in
+    let if1 = c .before .before .before .if1 in
+    let clear = c .before .clear in
+    refused (s .pre .0) (s .pre .1) (begin .ensures) (settle .ensures) (settle .kept .1 .1 .1 .1 .0 ∙ begin .kept .1 .0) (not-true (settle .result) (if1 .taken)) (clear .ensures)
+
+all-in-reach-requires : tie.Need-all-in-reach-requires
+all-in-reach-requires c κs = search needs
+
+clear-requires-2 : tie.Need-clear-requires-2
+clear-requires-2 c κs = search needs
+
+same-length-3 : tie.Need-same-length-3
+same-length-3 c = search needs
+
+same-length-4 : tie.Need-same-length-4
+same-length-4 c = search needs
+
+returns-2 : tie.Need-returns-2
+returns-2 c =
+    let s = c .before .before .before .before .before .before .before .before .before .before .before .before .before .before .before in
+    let begin = c .before .before .before .before .before .before .before .before .before .before .before .begin in
+    let settle = c .before .before .before .before .before .before .before .before .settle in
+    let if1 = c .before .before .before .before .before .before .if1 in
+    let all-in-reach = c .before .before .before .before .all-in-reach in
+    let if2 = c .before .before .before .if2 in
+    let clear2 = c .before .clear2 in
+    out (s .pre .0) (s .pre .1) (begin .ensures) (settle .ensures) (settle .kept .1 .1 .1 .1 .0 ∙ begin .kept .1 .0) (not-false (settle .result) (if1 .left))
+    (all-in-reach .ensures .fails (not-true (all-in-reach .result) (if2 .taken))) (clear2 .ensures)
+
+finish-requires : tie.Need-finish-requires
+finish-requires c κs =
+    let s = c .before .before .before .before .before .before .before .before .before .before .before .before .before .before .before in
+    let begin = c .before .before .before .before .before .before .before .before .before .before .before .begin in
+    let settle = c .before .before .before .before .before .before .before .before .settle in
+    let all-in-reach = c .before .before .before .before .all-in-reach in
+    let if2 = c .before .before .before .if2 in (
+      few (s .pre .0 .ready),
+      omega (arith, s .pre .0 .scratch-room, settle .kept .1 .1 .1 .1 .0, begin .kept .1 .0),
+      s .pre .0 .strict-room,
+      s .pre .0 .open-room,
+      all-in-reach .ensures .holds (not-false (all-in-reach .result) (if2 .left)),
+    )
+
+same-length-5 : tie.Need-same-length-5
+same-length-5 c = search needs
+
+same-length-6 : tie.Need-same-length-6
+same-length-6 c = search needs
+
+same-length-7 : tie.Need-same-length-7
+same-length-7 c = search needs
+
+returns-3 : tie.Need-returns-3
+returns-3 c =
+    let s = c .before .before .before .before .before .before .before .before .before .before .before .before .before .before .before .before .before .before .before in
+    let begin = c .before .before .before .before .before .before .before .before .before .before .before .before .before .before .before .begin in
+    let settle = c .before .before .before .before .before .before .before .before .before .before .before .before .settle in
+    let if1 = c .before .before .before .before .before .before .before .before .before .before .if1 in
+    let all-in-reach = c .before .before .before .before .before .before .before .before .all-in-reach in
+    let if2 = c .before .before .before .before .before .before .before .if2 in
+    let finish = c .before .before .before .finish in
+    taken (s .pre .0) (s .pre .1) (begin .ensures) (settle .ensures) (settle .kept .1 .1 .1 .1 .0 ∙ begin .kept .1 .0) (not-false (settle .result) (if1 .left))
+    (all-in-reach .ensures .holds (not-false (all-in-reach .result) (if2 .left))) (finish .ensures .0) (finish .ensures .1) (finish .ensures .2)
+
+pub sweeps-spec : {M : Type 1} → statement M
+sweeps-spec =
+    tie.close
+    (tie.spec
+    mul-room
+    mul-room-2
+    add-room
+    begin-requires
+    settle-requires
+    clear-requires
+    same-length
+    same-length-2
+    returns
+    all-in-reach-requires
+    clear-requires-2
+    same-length-3
+    same-length-4
+    returns-2
+    finish-requires
+    same-length-5
+    same-length-6
+    same-length-7
+    returns-3)

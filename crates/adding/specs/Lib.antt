@@ -1,0 +1,2 @@
+-- What Add's inner functions ask.
+pub mod Lent

@@ -1,0 +1,79 @@
+-- `settling::both_heights` meets its contract: two tables of at most 4,096 cells each stand far below the largest u64. Assumes nothing.
+use Prim.Native.Nat.{_*_}
+use native.Mathlib.Omega.{arith}
+use Rattle.whole.proofs.Place.{square-le}
+use Rattle.cell.specs.Steps.{adding}
+use Rattle.tables.proofs.Seen.{sound-held, heights-most}
+use Rattle.scratch.specs.Swept.{strictPart, openPart}
+use Rattle.scratch.proofs.Parts.{half-room, front-length, rest}
+use borrow.Author.Needs.{needs}
+use Rattle.scratch.proofs.settling.both_heights.Statement.{statement}
+use Rattle.scratch.proofs.settling.both_heights.Tie as tie
+
+mul-cells : tie.Need-mul-cells
+mul-cells c = search needs
+
+slice-aggregate-height-all : tie.Need-slice-aggregate-height-all
+slice-aggregate-height-all c =
+    let s = c .before in
+    front-length (s .args .n * s .args .n) (s .args .t .now) (half-room (s .pre .1))
+
+height-all-requires : tie.Need-height-all-requires
+height-all-requires c κs =
+    let s = c .before in
+    (omega (arith, square-le (s .pre .0)), sound-held (s .pre .1 .strict))
+
+mul-height-all : tie.Need-mul-height-all
+mul-height-all c = search needs
+
+sub-height-all : tie.Need-sub-height-all
+sub-height-all c = search needs
+
+part-height-all-start : tie.Need-part-height-all-start
+part-height-all-start c = search needs
+
+part-height-all-end : tie.Need-part-height-all-end
+part-height-all-end c = search needs
+
+height-all-requires-2 : tie.Need-height-all-requires-2
+height-all-requires-2 c κs =
+    let s = c .before .before .before in
+    (omega (arith, square-le (s .pre .0)), rw (rest (s .args .n * s .args .n) (s .args .t .now)) (sound-held (s .pre .1 .weak)))
+
+add-result : tie.Need-add-result
+unfolding adding
+add-result c =
+    let s = c .before .before .before .before in
+    let height-all = c .before .before .height-all in
+    let height-all2 = c .height-all2 in
+    let cells = s .args .n * s .args .n in
+    omega (
+      arith,
+      square-le (s .pre .0),
+      height-all .ensures,
+      rw (rest (s .args .n * s .args .n) (s .args .t .now)) at (height-all2 .ensures),
+      heights-most adding cells (strictPart (s .args .n) (s .args .t .now)) (sound-held (s .pre .1 .strict)) cells (omega arith),
+      heights-most adding cells (openPart (s .args .n) (s .args .t .now)) (sound-held (s .pre .1 .weak)) cells (omega arith),
+    )
+
+returns : tie.Need-returns
+returns c =
+    let s = c .before .before .before .before in
+    let height-all = c .before .before .height-all in
+    let height-all2 = c .height-all2 in
+    omega (arith, height-all .ensures, rw (rest (s .args .n * s .args .n) (s .args .t .now)) at (height-all2 .ensures))
+
+pub both-heights-spec : {M : Type 1} → statement M
+both-heights-spec =
+    tie.close
+    (tie.spec
+    mul-cells
+    slice-aggregate-height-all
+    height-all-requires
+    mul-height-all
+    sub-height-all
+    part-height-all-start
+    part-height-all-end
+    height-all-requires-2
+    add-result
+    returns)

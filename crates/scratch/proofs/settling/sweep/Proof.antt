@@ -1,0 +1,45 @@
+-- `settling::sweep` meets its contract: the strict table, then the open one under it, then its own part. Assumes nothing.
+use mathlib.Core.Path.{_∙_}
+use Rattle.tables.proofs.Links.{few}
+use Rattle.scratch.proofs.Sweeps.{both-first, both-under, open-swept}
+use borrow.Author.Needs.{needs}
+use Rattle.scratch.proofs.settling.sweep.Statement.{statement}
+use Rattle.scratch.proofs.settling.sweep.Tie as tie
+
+sweep-first-requires : tie.Need-sweep-first-requires
+sweep-first-requires c κs = search needs
+
+open-under-requires : tie.Need-open-under-requires
+open-under-requires c κs =
+    let s = c .before .before .before .before .before in
+    let sweep-first = c .before .before .sweep-first in
+    (few (s .pre .0), both-first (s .pre .0) (s .pre .1) (sweep-first .kept .1 .1 .1 .1 .0) (sweep-first .ensures .0) (sweep-first .ensures .1))
+
+sweep-last-requires : tie.Need-sweep-last-requires
+sweep-last-requires c κs =
+    let s = c .before .before .before .before .before .before .before .before in
+    let sweep-first = c .before .before .before .before .before .sweep-first in
+    let open-under = c .before .before .open-under in (
+      s .pre .0,
+      both-under (s .pre .0) (both-first (s .pre .0) (s .pre .1) (sweep-first .kept .1 .1 .1 .1 .0) (sweep-first .ensures .0) (sweep-first .ensures .1))
+          (open-under .kept .0) (open-under .ensures .0) (open-under .ensures .1),
+    )
+
+same-length : tie.Need-same-length
+same-length c = search needs
+
+returns : tie.Need-returns
+returns c =
+    let s = c .before .before .before .before .before .before .before .before .before .before in
+    let sweep-first = c .before .before .before .before .before .before .before .sweep-first in
+    let open-under = c .before .before .before .before .open-under in
+    let sweep-last = c .before .sweep-last in (
+      sweep-last .ensures .0 ∙ (open-under .ensures .0 ∙ sweep-first .ensures .0),
+      open-swept (s .pre .0) (s .args .t .now) (sweep-first .last .1 .1 .1 .1 .0) (open-under .last .0) (sweep-last .last .1 .1 .1 .1 .0)
+          (sweep-first .ensures .1) (open-under .ensures .0) (open-under .ensures .1) (sweep-last .ensures .0) (sweep-last .ensures .1),
+    )
+
+pub sweep-spec : {M : Type 1} → statement M
+sweep-spec =
+    tie.close
+    (tie.spec sweep-first-requires open-under-requires sweep-last-requires same-length returns)

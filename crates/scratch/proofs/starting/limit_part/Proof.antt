@@ -1,0 +1,47 @@
+-- `starting::limit_part` meets its contract: the strict table's part is lent. Assumes nothing.
+use mathlib.Core.Path.{_∙_}
+use Prim.Native.Nat.{_*_, _≤_}
+use native.Mathlib.Omega.{arith}
+use lib.ListN.{length}
+use Rattle.scratch.proofs.Parts.{front-length, front-back, front-rest}
+use borrow.Author.Needs.{needs}
+use Rattle.scratch.proofs.starting.limit_part.Statement.{statement}
+use Rattle.scratch.proofs.starting.limit_part.Tie as tie
+
+mul-cells : tie.Need-mul-cells
+mul-cells c = search needs
+
+slice-relend-prefix-limit-cell : tie.Need-slice-relend-prefix-limit-cell
+slice-relend-prefix-limit-cell c = search needs
+
+slice-aggregate-limit-cell : tie.Need-slice-aggregate-limit-cell
+slice-aggregate-limit-cell c =
+    let s = c .before in
+    front-length (s .args .n * s .args .n) (s .args .t .now) (omega (arith, s .pre .2))
+
+limit-cell-requires : tie.Need-limit-cell-requires
+limit-cell-requires c κs = search needs
+
+same-length : tie.Need-same-length
+same-length c = search needs
+
+returns : tie.Need-returns
+returns c =
+    let s = c .before .before .before in
+    let limit-cell = c .before .limit-cell in
+    let cells = s .args .n * s .args .n in
+    let half : cells ≤ length (s .args .t .now) = omega (arith, s .pre .2) in (
+      front-back cells (s .args .t .now) (limit-cell .last .0) half (limit-cell .kept .0) ∙ limit-cell .ensures,
+      front-rest cells (s .args .t .now) (limit-cell .last .0) half (limit-cell .kept .0),
+    )
+
+pub limit-part-spec : {M : Type 1} → statement M
+limit-part-spec =
+    tie.close
+    (tie.spec
+    mul-cells
+    slice-relend-prefix-limit-cell
+    slice-aggregate-limit-cell
+    limit-cell-requires
+    same-length
+    returns)

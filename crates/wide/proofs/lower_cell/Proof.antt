@@ -1,0 +1,36 @@
+-- `wide::lower_cell` meets its contract: a cell read, the new one stored if it is smaller, and written. Assumes nothing.
+use borrow.Author.Needs.{needs}
+use Rattle.cell.specs.Steps.{adding, cell64}
+use Rattle.tables.proofs.Turns.{lowering-is}
+use Rattle.wide.proofs.lower_cell.Statement.{statement}
+use Rattle.wide.proofs.lower_cell.Tie as tie
+
+get-requires : tie.Need-get-requires
+get-requires c κs = search needs
+
+kept-requires : tie.Need-kept-requires
+kept-requires c κs = search needs
+
+smaller-requires : tie.Need-smaller-requires
+smaller-requires c κs = search needs
+
+put-requires : tie.Need-put-requires
+put-requires c κs = search needs
+
+same-length : tie.Need-same-length
+same-length c = search needs
+
+returns : tie.Need-returns
+returns c =
+    let s = c .before .before .before .before .before .before .before .args in
+    let kept = c .before .before .before .before .kept in
+    let smaller = c .before .before .before .smaller in
+    let put = c .before .put in
+    lowering-is adding (s .n) (s .x) (s .y) (cell64 (s .c .v)) (s .t .now) (put .last .0)
+    (c .before .before .before .before .before .get .result .v) (kept .result .v) (smaller .result .v)
+    (c .before .before .before .before .before .get .ensures) (kept .ensures) (smaller .ensures) (put .ensures)
+
+pub lower-cell-spec : {M : Type 1} → statement M
+lower-cell-spec =
+    tie.close
+    (tie.spec get-requires kept-requires smaller-requires put-requires same-length returns)

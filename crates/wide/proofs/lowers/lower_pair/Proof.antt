@@ -1,0 +1,75 @@
+-- `lowers::lower_pair` meets its contract: nothing for a link's own contingent point, else one cell lowered to what Lower yields. Assumes nothing.
+use mathlib.Core.Path.{refl}
+use native.Mathlib.Omega.{arith}
+use Rattle.cell.specs.Steps.{adding}
+use Rattle.plan.specs.Values.{linkOf}
+use Rattle.cell.proofs.Cells.{spread-is}
+use Rattle.tables.proofs.Turns.{read-stored}
+use Rattle.tables.proofs.Links.{pair-own, pair-is}
+use borrow.Author.Needs.{needs}
+use Rattle.wide.proofs.Start.{weights-held}
+use Rattle.wide.proofs.lowers.lower_pair.Statement.{statement}
+use Rattle.wide.proofs.lowers.lower_pair.Tie as tie
+
+returns : tie.Need-returns
+returns c =
+    let s = c .before .before .before in
+    let if1 = c .if1 in
+    pair-own adding (s .args .n) (linkOf (s .args .a)) (linkOf (s .args .b)) (s .args .t .now) (if1 .taken)
+
+cast-from : tie.Need-cast-from
+cast-from c = search needs
+
+cast-by : tie.Need-cast-by
+cast-by c = search needs
+
+cast-to : tie.Need-cast-to
+cast-to c = search needs
+
+get-requires : tie.Need-get-requires
+get-requires c κs = search needs
+
+sub-lower : tie.Need-sub-lower
+sub-lower c = search needs
+
+lower-requires : tie.Need-lower-requires
+lower-requires c κs =
+    let s = c .before .before .before .before .before .before .before .before .before .before in
+    let get = c .before .before .get in (
+      read-stored adding (s .args .n) (s .args .a .con) (s .args .b .con) (s .args .t .now) (get .result .v) (s .pre .3) (s .pre .1 .con) (s .pre .2 .con) (get .ensures),
+      omega (arith, s .pre .1 .order, s .pre .1 .most, weights-held),
+      omega (arith, s .pre .2 .most, weights-held),
+    )
+
+lower-cell-requires : tie.Need-lower-cell-requires
+lower-cell-requires c κs = search needs
+
+same-length : tie.Need-same-length
+same-length c = search needs
+
+returns-2 : tie.Need-returns-2
+returns-2 c =
+    let s = c .before .before .before .before .before .before .before .before .before .before .before .before .before in
+    let if1 = c .before .before .before .before .before .before .before .before .before .before .if1 in
+    let get = c .before .before .before .before .before .get in
+    let lower = c .before .before .lower in
+    let lower-cell = c .before .lower-cell in
+    let a = linkOf (s .args .a) in
+    let b = linkOf (s .args .b) in
+    pair-is adding (s .args .n) a b (s .args .t .now) (lower-cell .last .0) (get .result .v) (lower .result .v) (if1 .left) (get .ensures)
+    (lower .ensures a b refl (spread-is b (omega (arith, s .pre .2 .order)))) (lower-cell .ensures)
+
+pub lower-pair-spec : {M : Type 1} → statement M
+lower-pair-spec =
+    tie.close
+    (tie.spec
+    returns
+    cast-from
+    cast-by
+    cast-to
+    get-requires
+    sub-lower
+    lower-requires
+    lower-cell-requires
+    same-length
+    returns-2)
