@@ -28,7 +28,15 @@ pub extern "C" fn post_check(file: &[u8], strict: &[i32], open: &[i32]) -> u64
 
 // Add.
 #[no_mangle]
-pub extern "C" fn post_add(file: &[u8], x: u32, y: u32, w: i32, strict: &mut [i32], open: &mut [i32], scratch: &mut [i64]) -> u64
+pub extern "C" fn post_add(
+    file: &[u8],
+    x: u32,
+    y: u32,
+    w: i32,
+    strict: &mut [i32],
+    open: &mut [i32],
+    scratch: &mut [i64],
+) -> u64
     ensures { λ r. ⌜ PackedAdd (Added version1 (addAnswer (now (file .entry)) (record { from = x; to = y; weight = w })) (planOf (now (file .entry))) (record { from = x; to = y; weight = w }) (now (strict .entry)) (now («open» .entry)) (now (scratch .entry))) r (now (strict .exit)) (now («open» .exit)) (now (scratch .exit)) ⌝ }
 {
     packed(add(file, x, y, w, strict, open, scratch))
