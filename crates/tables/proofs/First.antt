@@ -1,7 +1,7 @@
 -- The first tables: they have their walks, hold every given edge and 0 at most on the diagonal, and leave what lies past the room. Assumes nothing.
 use mathlib.Core.Path.{_≡_, refl, sym, ap, subst, _∙_}
 use mathlib.Core.Bool.{Bool, true, false, cond}
-use mathlib.Core.Logic.{_⊎_, ⊎-elim}
+use mathlib.Core.Logic.{⊎-elim}
 use mathlib.Core.List.{List, List·Memᴰ}
 use Prim.Native.Nat.{ℕ, zero, suc, _+_, _*_, _≤_, _<_}
 use native.Mathlib.Nat.{eq-or-lt-of-le, le-of-suc-le-suc, not-suc-le-zero}
@@ -15,21 +15,21 @@ use Rattle.whole.proofs.Order.{ints, neg}
 use Rattle.whole.proofs.Place.{inside}
 use Rattle.rules.specs.Plan.{Limit, Link, Plan, Ranges, Coherent}
 use Rattle.rules.specs.Edges as edges
-use Rattle.rules.specs.Edges.{Given, Derivable, Open}
+use Rattle.rules.specs.Edges.{Given, Derivable}
 use Rattle.rules.specs.Walks.{stay}
 use Rattle.rules.specs.Cells.{Cell, mark, num, _≤ᶜ_, cellOf, tableOf}
-use Rattle.rules.proofs.Walks.{single, Dominated, exactly}
+use Rattle.rules.proofs.Walks.{single, exactly}
 use Rattle.rules.proofs.Points.{Pointed, Weighted}
 use Rattle.rules.proofs.Expansion.{basic-least, basic-given}
 use Rattle.rules.proofs.Reach.{given-most}
 use Rattle.cell.specs.Steps.{smallerᶜ, Stored, clamped}
-use Rattle.tables.specs.Sweep.{iter, lowerCell, markAll, diagonalAll, limitCell, limitAll, startAll, linkEdges, linkAll, firstStrict, firstOpen}
+use Rattle.tables.specs.Sweep.{iter, lowerCell, markAll, diagonalAll, limitCell, limitAll, startAll, linkEdges, linkAll}
 use Rattle.cell.proofs.Cells.{≤ᶜ-trans, smaller-left}
 use Rattle.tables.proofs.Numbers.{Clamping, above, below, inside as in-reach, clamping}
 use Rattle.tables.specs.Table.{Sound}
 use Rattle.tables.proofs.Lowering.{Lowered, Lowers, cell-lowered, after-lowering, iter-lowered, iter-keeps}
 use Rattle.tables.proofs.Steps.{diagonal-lowers, start-lowers, limit-lowers, edges-lowers}
-use Rattle.tables.proofs.Walked.{Has, Walked, cell-walked, PlanLinks}
+use Rattle.tables.proofs.Walked.{Has, Walked, cell-walked}
 use Rattle.tables.proofs.Settled.{AllLinks}
 
 -- ---- the mark everywhere

@@ -6,10 +6,9 @@ use Prim.Native.Nat.{ℕ, zero, suc, _+_, _*_, _≤_, _<_}
 use native.Mathlib.Nat.{eq-or-lt-of-le, le-of-suc-le-suc, not-suc-le-zero}
 use native.Mathlib.Omega.{arith}
 use lib.ListN.{getD}
-use lib.IntN.{ℤ, pos, negsuc, _+ℤ_}
+use lib.IntN.{ℤ, pos, _+ℤ_}
 use lib.Signed.{_≤ℤ_}
-use Rattle.whole.specs.Signed.{up, dn}
-use Rattle.whole.proofs.Order.{ints, plus, parts, by-eq}
+use Rattle.whole.proofs.Order.{ints, plus, parts}
 use Rattle.whole.proofs.Place.{inside, Spot, spot}
 use Rattle.rules.specs.Plan.{Ranges}
 use Rattle.rules.proofs.Lists.{same-list}

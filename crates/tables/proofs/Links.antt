@@ -1,14 +1,12 @@
 -- Laws that the walks through the links cite: what Ready gives of a link read, one Lower, one Upper. Over any ranges. Assumes nothing.
-use mathlib.Core.Path.{_≡_, refl, sym, ap, _∙_}
-use mathlib.Core.Bool.{cond}
+use mathlib.Core.Path.{_≡_, ap, _∙_}
 use mathlib.Core.List.{List}
-use Prim.Native.Nat.{ℕ, zero, _+_, _*_, _-_, _≤_, _<_}
-use native.Mathlib.Omega.{arith}
+use Prim.Native.Nat.{ℕ, zero, _+_, _*_, _≤_, _<_}
 use borrow.Author.Tests.{eq-eqb, ne-eqb}
 use lib.ListN.{getD}
 use lib.IntN.{ℤ, pos}
 use Rattle.rules.specs.Plan.{Link, Ranges, version1, LinkInRange}
-use Rattle.rules.specs.Cells.{Cell, lowered, uppered, cellOf, tableOf}
+use Rattle.rules.specs.Cells.{Cell, lowered, uppered, cellOf}
 use Rattle.plan.specs.Layout.{linkAt}
 use Rattle.tables.specs.Table.{Ready}
 use Rattle.tables.specs.Sweep.{lowerCell, lowerPair, upperCell}

@@ -3,7 +3,7 @@ use mathlib.Core.Path.{_≡_, refl, sym, ap, subst, _∙_}
 use mathlib.Core.Bool.{Bool, true, false, cond}
 use mathlib.Core.Logic.{⊎-elim}
 use mathlib.Core.List.{List}
-use Prim.Native.Nat.{ℕ, zero, suc, _+_, _*_, _≤_, _<_}
+use Prim.Native.Nat.{ℕ, zero, _+_, _*_, _≤_, _<_}
 use native.Mathlib.Nat.{eq-or-lt-of-le, le-of-suc-le-suc, not-suc-le-zero}
 use native.Mathlib.Numerals.{add-one}
 use native.Mathlib.Omega.{arith}
@@ -18,7 +18,7 @@ use mir.Val.{SFits, toZ, ofZ}
 use Rattle.whole.proofs.Order.{ints, neg}
 use Rattle.whole.proofs.Bits.{signed, back}
 use Rattle.rules.specs.Plan.{Plan, Ranges, version1}
-use Rattle.rules.specs.Cells.{Cell, mark, num, cellOf, tableOf}
+use Rattle.rules.specs.Cells.{mark, num, cellOf, tableOf}
 use Rattle.rules.specs.Calls.{Kept, TimesOf}
 use Rattle.cell.specs.Steps.{Stored, cell32}
 use Rattle.tables.proofs.Turns.{read-cell}

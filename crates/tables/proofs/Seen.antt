@@ -1,21 +1,21 @@
 -- Laws that the looks at a table cite: what a test of one cell shows of the table, and bounds on the sum of heights. Assumes nothing.
 use mathlib.Core.Path.{_≡_, refl, sym, ap, subst, _∙_}
 use mathlib.Core.Bool.{Bool, true, false, true≢false}
-use mathlib.Core.Logic.{_⊎_, inl, inr, ⊎-elim}
+use mathlib.Core.Logic.{_⊎_, inr, ⊎-elim}
 use mathlib.Core.List.{List}
 use Prim.Native.Nat.{ℕ, zero, suc, _+_, _*_, _≤_, _<_}
 use native.Mathlib.Nat.{mul-suc}
 use native.Mathlib.Numerals.{add-one}
 use native.Mathlib.Omega.{arith}
-use lib.ListN.{length, getD}
+use lib.ListN.{getD}
 use lib.IntN.{ℤ, pos, negℤ, _+ℤ_}
-use lib.Signed.{_≤ℤ_, _<ℤ_}
+use lib.Signed.{_<ℤ_}
 use Rattle.whole.proofs.Order.{ints, plus, parts, split}
 use Rattle.whole.proofs.Bits.{signed}
 use Rattle.whole.proofs.Place.{inside, Spot, spot}
 use Rattle.rules.specs.Plan.{Ranges}
 use Rattle.rules.specs.Cells.{Cell, mark, num, _≤ᶜ_, Within, cellOf, tableOf}
-use Rattle.cell.specs.Steps.{Stored, belowᶜ, height, Decides}
+use Rattle.cell.specs.Steps.{Stored, belowᶜ, height}
 use Rattle.cell.proofs.Cells.{not-below-le}
 use Rattle.tables.specs.Table.{Sound, Held}
 use Rattle.tables.specs.Sweep.{heights}

@@ -10,9 +10,9 @@ use Rattle.rules.specs.Cells.{num}
 use Rattle.rules.proofs.Demands.{version1-coherent}
 use Rattle.plan.specs.Layout.{limitAt, linkAt}
 use Rattle.tables.specs.Table.{Sound, Ready}
-use Rattle.tables.specs.Sweep.{lowerCell, joinAll, lowerAll, upperAll, openAll, caseAll, sweepStrict, sweepOpen, markAll, diagonalAll, limitCell, limitAll, startAll, linkEdges, linkAll}
+use Rattle.tables.specs.Sweep.{lowerCell, joinAll, lowerAll, openAll, caseAll, markAll, diagonalAll, limitCell, limitAll, startAll}
 use Rattle.tables.proofs.Lowering.{iter-lowered}
-use Rattle.tables.proofs.Steps.{joins-lower, lower-lowers, upper-lowers, open-lowers, case-lowers, strict-lowers, open-sweep-lowers, diagonal-lowers, start-lowers, limit-lowers, edges-lowers}
+use Rattle.tables.proofs.Steps.{joins-lower, lower-lowers, open-lowers, case-lowers, diagonal-lowers, start-lowers, limit-lowers}
 use Rattle.tables.proofs.Ready.{limit-range}
 use Rattle.tables.proofs.Links.{link-points}
 use Rattle.tables.proofs.Starts.{marks-sound}
@@ -53,9 +53,3 @@ module _ {n : ℕ} {t u : List ℤ} where
         (iter-lowered version1 n m (λ i. limitCell version1 n (limitAt s i))
         (limit-lowers version1 version1-coherent n (limitAt s) m (λ i q. limit-range s n m k r i q .from) (λ i q. limit-range s n m k r i q .to))
         t h .sound)
-
-    pub sound-sweep : Sound version1 n t → u ≡ sweepStrict version1 n (linkAt s m) k t → Sound version1 n u
-    sound-sweep h e = rw e (strict-lowers version1 version1-coherent n (linkAt s m) k (link-points r) t h .sound)
-
-    pub sound-open-sweep : (strict : List ℤ) → Sound version1 n t → u ≡ sweepOpen version1 n (linkAt s m) k strict t → Sound version1 n u
-    sound-open-sweep strict h e = rw e (open-sweep-lowers version1 version1-coherent n (linkAt s m) k (link-points r) strict t h .sound)

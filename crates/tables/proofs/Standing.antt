@@ -8,7 +8,6 @@ use native.Mathlib.Omega.{arith}
 use lib.ListN.{length}
 use lib.IntN.{ℤ}
 use Rattle.rules.specs.Plan.{Plan, version1}
-use Rattle.rules.specs.Walks.{Uncontrollable}
 use Rattle.rules.specs.Calls.{cellsOf, Kept, Written}
 use Rattle.rules.proofs.Demands.{version1-coherent}
 use Rattle.plan.specs.Layout.{limitAt, linkAt, planOf}

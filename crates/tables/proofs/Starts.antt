@@ -1,6 +1,6 @@
 -- Laws that the walks through the first tables and the open table cite: the mark written cell by cell, and the numbers of given edges as cells.
 -- At version 1's ranges, since they speak of what the code's 32-bit cells are. Assumes nothing.
-use mathlib.Core.Path.{_≡_, refl, sym, ap, _∙_}
+use mathlib.Core.Path.{_≡_, refl, ap, _∙_}
 use mathlib.Core.List.{List}
 use Prim.Native.Nat.{ℕ, zero, _+_, _*_, _≤_, _<_}
 use native.Mathlib.Numerals.{add-one}
@@ -12,17 +12,16 @@ use mir.Syntax.{w32}
 use mir.Val.{SFits, toZ, ofZ}
 use Rattle.whole.proofs.Order.{ints, neg}
 use Rattle.whole.proofs.Bits.{signed, back}
-use Rattle.rules.specs.Plan.{Limit, Link, Ranges, version1, LimitInRange, LinkInRange}
-use Rattle.rules.specs.Cells.{Cell, mark, num, cellOf, tableOf}
-use Rattle.rules.specs.Calls.{Kept}
+use Rattle.rules.specs.Plan.{Limit, Link, Ranges, version1, LimitInRange}
+use Rattle.rules.specs.Cells.{mark, num, cellOf}
 use Rattle.plan.specs.Layout.{limitAt}
 use Rattle.cell.specs.Steps.{cell32}
 use Rattle.cell.proofs.Laws.{room32, in-range, weight-number, negation-fits}
 use Rattle.tables.specs.Table.{Sound, Ready}
-use Rattle.tables.specs.Sweep.{lowerCell, markAll, openCell, caseLink, limitCell, linkEdges}
+use Rattle.tables.specs.Sweep.{lowerCell, markAll, openCell, linkEdges}
 use Rattle.tables.proofs.Turns.{read-cell}
 use Rattle.tables.proofs.Links.{lowering-by}
-use Rattle.tables.proofs.First.{AllMark, marks, marks-walked}
+use Rattle.tables.proofs.First.{marks-walked}
 use Rattle.tables.proofs.Ready.{limit-range}
 
 -- ---- the mark

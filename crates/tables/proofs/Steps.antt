@@ -1,17 +1,17 @@
 -- Each part of a sweep lowers, and where it leaves the table as it was, its part of closed holds of stored cells. Over any coherent ranges.
 -- Assumes nothing.
-use mathlib.Core.Path.{_≡_, refl, sym, ap, subst, _∙_}
+use mathlib.Core.Path.{_≡_, refl}
 use mathlib.Core.Logic.{_≢_}
 use mathlib.Core.Bool.{Bool, true, false, cond}
 use mathlib.Core.List.{List}
-use Prim.Native.Nat.{ℕ, zero, suc, _+_, _*_, _≤_, _<_}
+use Prim.Native.Nat.{ℕ, zero, _<_}
 use native.Mathlib.Omega.{arith}
-use lib.Dec.{T, eqb, eqb→eq}
+use lib.Dec.{eqb, eqb→eq}
 use lib.IntN.{ℤ, pos, negℤ}
 use Rattle.rules.specs.Plan.{Limit, Link, Ranges, Coherent}
 use Rattle.rules.specs.Cells.{Cell, num, _+ᶜ_, _≤ᶜ_, lowered, uppered, tableOf}
 use Rattle.cell.specs.Steps.{clamped}
-use Rattle.tables.specs.Sweep.{iter, lowerCell, joinCell, joinRow, joinMiddle, joinAll, lowerPair, lowerLink, lowerAll, upperCell, upperPoint, upperAll, openCell, openRow, openAll, caseLink, caseAll, sweepStrict, sweepOpen, limitCell, linkEdges}
+use Rattle.tables.specs.Sweep.{lowerCell, joinCell, joinRow, joinMiddle, joinAll, lowerPair, lowerLink, lowerAll, upperCell, upperPoint, upperAll, openCell, openRow, openAll, caseLink, caseAll, sweepStrict, sweepOpen, limitCell, linkEdges}
 use Rattle.tables.specs.Table.{Sound}
 use Rattle.tables.proofs.Lowering.{Lowered, Lowers, lowered-refl, lowered-trans, cell-lowered, cell-fixed, iter-lowered, iter-fixed, both-fixed}
 

@@ -5,16 +5,16 @@ use mathlib.Core.List.{List}
 use Prim.Native.Nat.{ℕ, zero, suc, _+_, _*_, _≤_, _<_}
 use native.Mathlib.Numerals.{add-one}
 use native.Mathlib.Omega.{arith}
-use lib.ListN.{length, getD, set}
+use lib.ListN.{getD, set}
 use lib.Seq.{set-getD}
 use lib.IntN.{ℤ, pos}
-use Rattle.rules.specs.Plan.{Ranges, Coherent}
-use Rattle.rules.specs.Cells.{Cell, mark, num, _+ᶜ_, cellOf, tableOf}
+use Rattle.rules.specs.Plan.{Ranges}
+use Rattle.rules.specs.Cells.{Cell, mark, _+ᶜ_, cellOf, tableOf}
 use Rattle.cell.specs.Steps.{smallerᶜ, Stored, clamped, numberOf}
 use Rattle.tables.specs.Table.{Sound}
 use Rattle.tables.specs.Sweep.{iter, lowerCell, joinCell, joinRow}
 use Rattle.cell.proofs.Cells.{number-back}
-use Rattle.tables.proofs.Lowering.{Lowered, Lowers, lowered-refl, lowered-trans, iter-lowered}
+use Rattle.tables.proofs.Lowering.{Lowered, Lowers, lowered-refl, lowered-trans}
 
 -- a cell read, the new one stored if it is smaller, and written: one lowering
 pub lowering-is : (r : Ranges) (n x y : ℕ) (c : Cell) (t u : List ℤ) (old kept new : ℤ) → old ≡ getD t (x * n + y) (pos zero)

@@ -4,7 +4,6 @@ use mathlib.Core.Path.{_≡_, refl, ap, _∙_}
 use Prim.Native.Nat.{_+_, _-_, _≤_}
 use native.Mathlib.Omega.{arith}
 use Rattle.rules.specs.Plan.{version1}
-use Rattle.cell.specs.Steps.{cell32}
 use Rattle.tables.specs.Sweep.{heights}
 use Rattle.tables.proofs.Seen.{held-read, heights-most, heights-more}
 use Rattle.tables.proofs.looks.height_all.Statement.{statement}

@@ -1,7 +1,6 @@
 -- `settling::both_heights` meets its contract: two tables of at most 4,096 cells each stand far below the largest u64. Assumes nothing.
 use borrow.Author.Needs.{needs}
 use Prim.Native.Nat.{_*_}
-use native.Mathlib.Nat.{mul-le-mul-left}
 use native.Mathlib.Omega.{arith}
 use Rattle.whole.proofs.Place.{square-le}
 use Rattle.rules.specs.Plan.{version1}

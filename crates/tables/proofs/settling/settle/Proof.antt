@@ -1,6 +1,5 @@
 -- `settling::settle` meets its contract. The loop's invariant: both tables stand as the sweeps leave them, and the local is how far they can still fall,
 -- which is the measure. Assumes nothing.
-use borrow.Author.Needs.{needs}
 use mathlib.Core.Path.{_≡_, sym, _∙_}
 use borrow.Author.Tests.{not-true, not-false}
 use Prim.Native.Nat.{_+_, _*_}
