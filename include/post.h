@@ -7,9 +7,10 @@
  *
  * WHAT IS LENT. A slice is a pointer and a length, and the length counts elements, not bytes. You lend it for the time of the call: the
  * call keeps no pointer, reads nothing outside the slices, and writes nothing unless this file says so at that call. On your side:
- *   - the pointer is not NULL and is aligned for its type (4 bytes for int32_t), also where the length is 0;
+ *   - the pointer is not NULL and is aligned for its type (4 bytes for int32_t, 8 for int64_t), also where the length is 0;
  *   - all the elements it promises are there and have been written once;
- *   - nobody writes them while the call runs. Slices that are only read may overlap.
+ *   - nobody writes them while the call runs. Slices that are only read may overlap. A slice that a call may write overlaps no other slice
+ *     of that call, and nobody else reads it while the call runs.
  *
  * A PLAN FILE is bytes as they came: little-endian 32-bit fields, a header of 24 bytes, then the limits, then the links. It is read where it
  * lies, at any alignment, and is never copied. The largest has 12,824 bytes. Any bytes may be lent: what is not a plan file is refused
@@ -42,7 +43,8 @@ extern "C" {
 
 /*
  * An answer is one 64-bit number: the code in the low 32 bits, the place in the high 32. The place is 0 unless it is named here. Where several
- * codes would fit, the order is: 1 to 5; 6, by the limits' order in the file; then by the links' order 7 and 8 of each link; 9; 10; 11 and 12.
+ * codes would fit, the order is: 1 to 5; 6, by the limits' order in the file, then for the limit handed to post_add; then by the links' order 7 and 8 of
+ * each link; 9; 10; 11 and 12, each in the order that its call gives.
  */
 enum post_code {
     POST_DONE = 0,             /* done, or accepted */
@@ -51,13 +53,13 @@ enum post_code {
     POST_BAD_POINTS = 3,       /* the number of points is not 1 to 64 */
     POST_BAD_COUNTS = 4,       /* more than 1,024 limits or more than 32 links */
     POST_BAD_LAYOUT = 5,       /* an offset or the file's length is not as laid down */
-    POST_BAD_LIMIT = 6,        /* a limit out of range; place: index of the first */
+    POST_BAD_LIMIT = 6,        /* a limit out of range; place: index of the first; for the limit handed to post_add: the number of the file's limits */
     POST_BAD_LINK = 7,         /* a link out of range; place: its index */
     POST_REPEATED_LINK = 8,    /* a link repeats an earlier one's contingent point; place: the later index */
-    POST_SHORT_ROOM = 9,       /* a lent slice is shorter than needed: n x n cells in each table */
+    POST_SHORT_ROOM = 9,       /* a lent slice is shorter than needed: n x n cells in each table, 2 x n x n in a scratch */
     POST_HAS_LINKS = 10,       /* not given by any call declared here */
-    POST_NOT_CONTROLLABLE = 11, /* not given by any call declared here: post_check gives 12 instead */
-    POST_NOT_CLOSED = 12       /* the tables are not closed for the plan: do not use them */
+    POST_NOT_CONTROLLABLE = 11, /* post_add: with the limit nothing is left that can be carried out; post_check gives 12 instead */
+    POST_NOT_CLOSED = 12       /* the tables are not closed for the plan: do not use them; post_add: also a result beyond POST_REACH */
 };
 
 static inline uint32_t post_code_of(uint64_t answer) { return (uint32_t)answer; }
@@ -77,6 +79,21 @@ static inline uint32_t post_place_of(uint64_t answer) { return (uint32_t)(answer
  * Time: at most about 2 x n x n x n additions and comparisons, half a million for 64 points; it stops at the first cell that is wrong.
  */
 uint64_t post_check(const uint8_t *file, size_t file_len, const int32_t *strict, size_t strict_len, const int32_t *open, size_t open_len);
+
+/*
+ * Add: one more limit on two tables of a plan file. The limit says: point y comes at most w seconds after point x.
+ *
+ *   0        taken. Both tables are those of the plan that has every strict cell off the diagonal as a limit, and the new limit
+ *   1 to 8   the file or the limit is refused; 6 with the number of the file's limits as its place is the new limit
+ *   9        a table has fewer than n x n cells, or the scratch fewer than 2 x n x n
+ *   12       the tables are not closed for the plan
+ *   11       with the limit the plan cannot be carried out. The same limit is refused again at any later time.
+ *   12       a cell of the result lies beyond POST_REACH. This never happens on tables that came from the same file by Judge and Add.
+ *
+ * Lent: the file, both tables and a scratch (scratch_len cells of int64_t). The tables change with 0 only. The scratch may hold anything; it is
+ * unchanged with 1 to 9, and else its first 2 x n x n cells are 0. Cells beyond the needed room never change.
+ */
+uint64_t post_add(const uint8_t *file, size_t file_len, uint32_t x, uint32_t y, int32_t w, int32_t *strict, size_t strict_len, int32_t *open, size_t open_len, int64_t *scratch, size_t scratch_len);
 
 #ifdef __cplusplus
 }

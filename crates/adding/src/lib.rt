@@ -37,7 +37,7 @@ fn sweeps(
     let room = n * n + n * n;
     begin(strict, cells, n, l);
     if !settle(file, n, m, k, cells) {
-        clear(cells, room);
+        clear(cells, room); // a refusal leaves no trace
         return Answer::NotControllable;
     }
     if !all_in_reach(cells, room) {

@@ -10,7 +10,7 @@ mul-cells c = search needs
 narrow-requires : tie.Need-narrow-requires
 narrow-requires c κs =
     let s = c .before .before in
-    (omega (arith, s .pre .1), s .pre .2, λ i h. s .pre .4 i (omega arith))
+    (omega (arith, s .pre .1), omega (arith, s .pre .2), λ i h. s .pre .4 i (omega arith))
 
 narrow-open-requires : tie.Need-narrow-open-requires
 narrow-open-requires c κs = search needs

@@ -28,7 +28,7 @@ narrow-requires c κs =
     let s = c .before .before in
     let cells = s .args .n * s .args .n in
     rw (rest cells (s .args .t .now))
-    (omega (arith, s .pre .1, length-drop cells (s .args .t .now)), s .pre .2, part-reach cells (s .args .t .now) (s .pre .3))
+    (omega (arith, s .pre .1, length-drop cells (s .args .t .now)), omega (arith, s .pre .2), λ i h. part-reach cells (s .args .t .now) (s .pre .3) i (omega arith))
 
 same-length : tie.Need-same-length
 same-length c = search needs
