@@ -1,0 +1,3 @@
+-- What the walks share, and one walk for the two functions over a file.
+pub mod Thin
+pub mod Through
