@@ -15,12 +15,10 @@ pub struct PlanReader<'a> {
 
 // The reader of a file: its header is read once.
 pub fn made<'a>(file: &'a [u8]) -> PlanReader<'a>
-    ensures {
-        λ r. ⌜ (r .file ≡ file .entry)
+    ensures { λ r. ⌜ (r .file ≡ file .entry)
         × (r .n ≡ headOf (now (file .entry)) .points)
         × (r .m ≡ headOf (now (file .entry)) .limits)
-        × (r .k ≡ headOf (now (file .entry)) .links) ⌝
-    }
+        × (r .k ≡ headOf (now (file .entry)) .links) ⌝ }
 {
     let h = plan::head(file);
     PlanReader {
