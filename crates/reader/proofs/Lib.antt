@@ -1,3 +1,4 @@
--- What the walks share, and one walk for the two functions over a file.
+-- What the walks share, one walk for the two functions over a file, and what is read through a reader.
 pub mod Thin
 pub mod Through
+pub mod Planned

@@ -5,7 +5,7 @@
 --     through          the MIR meets `outer`, from `made`'s contract and `inner`
 -- In a local of a body MIR erases the lifetime of the struct's type, so the reader is shown to have the type at `erased`: what it owns does not say the lifetime's name.
 -- Assumes nothing.
-use mathlib.Core.Path.{_≡_, refl}
+use mathlib.Core.Path.{refl}
 use Prim.Native.Nat.{ℕ, _<_, _^_}
 use mathlib.Core.List.{List, [], _∷_}
 use lib.Dec.{T as Holds}
@@ -29,7 +29,7 @@ use denote.Laws.{Is}
 use denote.Plain.{uint-vals, uint-tells}
 use denote.Builtin.{u8, u32, SliceRefOf}
 use denote.Exit.{yes}
-use denote.Ref.{RefT, NamedLft, now}
+use denote.Ref.{RefT, NamedLft}
 use denote.Signature.{plain}
 use denote.Slice.{sliceTy, sliceVal, ShrSlice, slice-vals, shr-slice-tells, shr-slice-lawful}
 use denote.Struct.Laws as LL
@@ -39,7 +39,7 @@ use denote.Triple.Call.{calls-at}
 use denote.Triple.Entry.{Vals, alive, onEntry}
 use denote.Triple.Spec.{Meets, tripleOf}
 use denote.Triple.Walked.{walkOf}
-use Rattle.plan.specs.Layout.{headOf}
+use Rattle.reader.specs.Reads.{ReaderOf}
 use Rattle.reader.specs.declared.PlanReader.{PlanReader}
 use Rattle.reader.proofs.PlanReader as T
 use Rattle.reader.proofs.PlanReader.Laws as T′
@@ -47,16 +47,12 @@ use Rattle.reader.proofs.Thin.{leaves, ending, concludes, asks, returne
 use Rattle.reader.proofs.made as made
 use Rattle.reader.proofs.made.Symbol.{name as #reader·made}
 
--- what `made` says of the reader d of the file s
-abbrev pub Made : RefT (List ℕ) → PlanReader → Type 0
-Made s d = (d .file ≡ s) × (d .n ≡ headOf (now s) .points) × (d .m ≡ headOf (now s) .limits) × (d .k ≡ headOf (now s) .links)
-
 pub record Record (R : RattleType) : Type 2 where
   pub mir : Ty
   pub typed : {M : Type 1} (𝓤 : URA M) (H : Heap 𝓤) (A : Atoms 𝓤) (W : Given 𝓤 H A) (r : R .Denot) (u : Val) → Is R r (u ∷ []) → Holds (hasTy mir u) × WT u
   pub φ : PlanReader → ℕ → R .Denot → Type 0
   pub ψ : RefT (List ℕ) → ℕ → R .Denot → Type 0
-  pub turns : (s : RefT (List ℕ)) (d : PlanReader) (i : ℕ) (r : R .Denot) → Made s d → φ d i r → ψ s i r
+  pub turns : (s : RefT (List ℕ)) (d : PlanReader) (i : ℕ) (r : R .Denot) → ReaderOf s d → φ d i r → ψ s i r
 
 module _ (R : RattleType) (X : Record R) where
   abbrev pub Inner : Ended
@@ -128,7 +124,7 @@ module _ (R : RattleType) (X : Record R) where
           asks ! made.signature (made.spec 𝓤 H A mem run) to-made (id⊢ 𝓤 _) $
           -- [what `made` asks; what the index owns; room for _3; …; _2; …; _1; …; room for _0; …]
           calls-at ! fm MadeOf known-made to-made (and-then ! (load ! (from ! (stop !)) (look ! 6 refl)) (no-more !)) (λ u.
-          returned ! tt made.ended (made.clauses 𝓤 H A mem run) to-made u (Made s) (λ d ws. id⊢ 𝓤 _) (λ d e is.
+          returned ! tt made.ended (made.clauses 𝓤 H A mem run) to-made u (ReaderOf s) (λ d ws. id⊢ 𝓤 _) (λ d e is.
           -- [what the reader owns; the tokens; what the index owns; room for _3; …; _2; …; _1; …; room for _0; …]
           land ! (from ! (stop !)) (init ! 3 refl (LL.lawful (T.the-type αᵉ) (T′.the-laws αᵉ) 𝓤 H A W .typed d _ is .0)) $
           move ! (0 ∷ 2 ∷ []) $ fjoin ! $ move ! (1 ∷ 0 ∷ []) $

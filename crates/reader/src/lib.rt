@@ -4,6 +4,7 @@
 ghost use mathlib.Core.Path.{_≡_};
 ghost use Rattle.plan.specs.Layout.{headOf, limitAt, linkAt};
 ghost use Rattle.plan.specs.Values.{limitOf, linkOf};
+ghost use Rattle.reader.specs.Reads.{ReaderOf};
 
 // A lent plan file with its numbers of points, limits and links.
 pub struct PlanReader<'a> {
@@ -15,10 +16,7 @@ pub struct PlanReader<'a> {
 
 // The reader of a file: its header is read once.
 pub fn made<'a>(file: &'a [u8]) -> PlanReader<'a>
-    ensures { λ r. ⌜ (r .file ≡ file .entry)
-        × (r .n ≡ headOf (now (file .entry)) .points)
-        × (r .m ≡ headOf (now (file .entry)) .limits)
-        × (r .k ≡ headOf (now (file .entry)) .links) ⌝ }
+    ensures { λ r. ⌜ ReaderOf (file .entry) r ⌝ }
 {
     let h = plan::head(file);
     PlanReader {

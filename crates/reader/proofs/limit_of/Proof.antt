@@ -13,8 +13,9 @@ use Rattle.plan.specs.Values.{limitOf}
 use Rattle.plan.specs.declared.Limit.{Limit}
 use Rattle.plan.proofs.Limit as S
 use Rattle.plan.proofs.Limit.Laws as S′
+use Rattle.reader.specs.Reads.{ReaderOf}
 use Rattle.reader.specs.declared.PlanReader.{PlanReader}
-use Rattle.reader.proofs.Through.{Made, Record, MadeOf, ReadOf, through}
+use Rattle.reader.proofs.Through.{Record, MadeOf, ReadOf, through}
 use Rattle.reader.proofs.made.Symbol as made-def
 use Rattle.reader.proofs.made.Symbol.{name as #reader·made}
 use Rattle.reader.proofs.made.Met as made-thm
@@ -33,7 +34,7 @@ of-reader d i r = limitOf r ≡ limitAt (now (d .file)) i
 abbrev of-file : RefT (List ℕ) → ℕ → Limit → Type 0
 of-file s i r = limitOf r ≡ limitAt (now s) i
 
-turned : (s : RefT (List ℕ)) (d : PlanReader) (i : ℕ) (r : Limit) → Made s d → of-reader d i r → of-file s i r
+turned : (s : RefT (List ℕ)) (d : PlanReader) (i : ℕ) (r : Limit) → ReaderOf s d → of-reader d i r → of-file s i r
 turned s d i r e said = said ∙ ap (λ (x : RefT (List ℕ)). limitAt (now x) i) (e .0)
 
 abbrev record-limit : Record S.the-row

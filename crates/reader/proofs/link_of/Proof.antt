@@ -13,8 +13,9 @@ use Rattle.plan.specs.Values.{linkOf}
 use Rattle.plan.specs.declared.Link.{Link}
 use Rattle.plan.proofs.Link as S
 use Rattle.plan.proofs.Link.Laws as S′
+use Rattle.reader.specs.Reads.{ReaderOf}
 use Rattle.reader.specs.declared.PlanReader.{PlanReader}
-use Rattle.reader.proofs.Through.{Made, Record, MadeOf, ReadOf, through}
+use Rattle.reader.proofs.Through.{Record, MadeOf, ReadOf, through}
 use Rattle.reader.proofs.made.Symbol as made-def
 use Rattle.reader.proofs.made.Symbol.{name as #reader·made}
 use Rattle.reader.proofs.made.Met as made-thm
@@ -33,7 +34,7 @@ of-reader d i r = linkOf r ≡ linkAt (now (d .file)) (d .m) i
 abbrev of-file : RefT (List ℕ) → ℕ → Link → Type 0
 of-file s i r = linkOf r ≡ linkAt (now s) (headOf (now s) .limits) i
 
-turned : (s : RefT (List ℕ)) (d : PlanReader) (i : ℕ) (r : Link) → Made s d → of-reader d i r → of-file s i r
+turned : (s : RefT (List ℕ)) (d : PlanReader) (i : ℕ) (r : Link) → ReaderOf s d → of-reader d i r → of-file s i r
 turned s d i r e said = said ∙ (ap (λ (x : RefT (List ℕ)). linkAt (now x) (d .m) i) (e .0) ∙ ap (λ (m : ℕ). linkAt (now s) m i) (e .2))
 
 abbrev record-link : Record S.the-row

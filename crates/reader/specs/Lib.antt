@@ -1,0 +1,2 @@
+-- The reader of a plan file, and what is read through it.
+pub mod Reads
