@@ -1,2 +1,3 @@
 -- Laws behind Add.
 pub mod Answered
+pub mod Ruled
