@@ -5,7 +5,7 @@ here=$(cd "$(dirname "${BASH_SOURCE[0]}")" && pwd)
 root=$(dirname "$here")
 out=$root/target/compare
 library=${POST_LIBRARY:-$root/target/staticlib/libpost.a}
-flags=(-std=c++17 "${OPTIMIZE:--O2}" -Wall -Wextra)
+flags=(-I"$root/include" -std=c++17 "${OPTIMIZE:--O2}" -Wall -Wextra)
 fail() { echo "compare: $*" >&2; exit 2; }
 
 # need COMMAND PACKAGE: installs Debian's package if the command (or the file) is not there, and says so.
@@ -42,7 +42,7 @@ compile() {
   local name object running=() pid
   for name in "$@"; do
     object=$out/$flavour/$name.o
-    [[ -f $object && -z $(find "$here/$name.cpp" "$here"/*.h "$here"/*.hpp -newer "$object") ]] && continue
+    [[ -f $object && -z $(find "$here/$name.cpp" "$root"/include/post.h "$here"/*.hpp -newer "$object") ]] && continue
     "$compiler" "${flags[@]}" -c -o "$object" "$here/$name.cpp" &
     running+=($!)
     if (( ${#running[@]} == 2 )); then wait "${running[0]}" || fail "$name did not compile"; running=("${running[1]}"); fi

@@ -57,8 +57,8 @@ enum post_code {
     POST_BAD_LINK = 7,         /* a link out of range; place: its index */
     POST_REPEATED_LINK = 8,    /* a link repeats an earlier one's contingent point; place: the later index */
     POST_SHORT_ROOM = 9,       /* a lent slice is shorter than needed: n x n cells in each table, 2 x n x n in a scratch */
-    POST_HAS_LINKS = 10,       /* not given by any call declared here */
-    POST_NOT_CONTROLLABLE = 11, /* post_add: with the limit nothing is left that can be carried out; post_check gives 12 instead */
+    POST_HAS_LINKS = 10,       /* post_earliest: the plan has links */
+    POST_NOT_CONTROLLABLE = 11, /* the plan cannot be carried out whatever the durations are; post_add: not with the new limit; post_check gives 12 instead */
     POST_NOT_CLOSED = 12       /* the tables are not closed for the plan: do not use them; post_add: also a result beyond POST_REACH */
 };
 
@@ -79,6 +79,32 @@ static inline uint32_t post_place_of(uint64_t answer) { return (uint32_t)(answer
  * Time: at most about 2 x n x n x n additions and comparisons, half a million for 64 points; it stops at the first cell that is wrong.
  */
 uint64_t post_check(const uint8_t *file, size_t file_len, const int32_t *strict, size_t strict_len, const int32_t *open, size_t open_len);
+
+/*
+ * Judge: fills two tables from a plan file, or refuses the plan.
+ *
+ *   0        the plan can be carried out however long each download and restart takes within its bounds. The first n x n cells of both tables
+ *            are the least totals; post_check accepts them with the same file
+ *   1 to 8   the file is refused; no cell changes
+ *   9        a table has fewer than n x n cells; no cell changes
+ *   11       the plan cannot be carried out; the first n x n cells of both tables hold POST_MARK
+ *
+ * Lent: the file and both tables, which may hold anything and must not overlap. Cells beyond n x n never change. No other room is needed.
+ * Time: a few sweeps of about 2 x n x n x n additions and comparisons; random plans of 64 points and 32 links needed at most nine.
+ */
+uint64_t post_judge(const uint8_t *file, size_t file_len, int32_t *strict, size_t strict_len, int32_t *open, size_t open_len);
+
+/*
+ * Earliest: the earliest timetable of a plan without links.
+ *
+ *   0        both tables as post_judge fills them, and times[x] is the earliest time of point x: it meets every limit, point 0 is at 0, no time is
+ *            below 0, and no timetable that meets the limits has an earlier time at any point
+ *   1 to 8   the file is refused; nothing changes
+ *   9        a table has fewer than n x n cells, or there are fewer than n times; nothing changes
+ *   10       the plan has links; nothing changes
+ *   11       no timetable meets the limits; the first n x n cells of both tables hold POST_MARK, the times are unchanged
+ */
+uint64_t post_earliest(const uint8_t *file, size_t file_len, int32_t *strict, size_t strict_len, int32_t *open, size_t open_len, int32_t *times, size_t times_len);
 
 /*
  * Add: one more limit on two tables of a plan file. The limit says: point y comes at most w seconds after point x.
