@@ -8,19 +8,19 @@ use native.Mathlib.Omega.{arith}
 use lib.Dec.{eqb}
 use lib.ListN.{length}
 use lib.IntN.{ℤ, pos}
-use Rattle.rules.specs.Plan.{Limit, version1, InRange, LimitInRange}
+use Rattle.rules.specs.Plan.{Limit, version1, LimitInRange}
 use Rattle.rules.specs.Answers.{codeOf}
 use Rattle.rules.specs.Cells.{tableOf}
 use Rattle.rules.specs.Tables.{Tables, Closed}
 use Rattle.rules.specs.Additions.{withCells}
 use Rattle.rules.specs.Calls as calls
-use Rattle.rules.specs.Calls.{Added, Kept, Filled, RoomForTables, scratchOf, Written}
+use Rattle.rules.specs.Calls.{Added, Kept, Filled, RoomForTables, scratchOf}
 use Rattle.rules.specs.declared.Answer.{Answer}
 use Rattle.rules.specs.declared.Answer.the-variants.{Done, ShortRoom, NotControllable, NotClosed}
 use Rattle.answers.proofs.Codes.{code-zero}
 use Rattle.plan.specs.declared.Header.{Header}
 use Rattle.plan.specs.Layout.{headOf, linkAt, planOf}
-use Rattle.plan.specs.File.{fileAnswer, addAnswer}
+use Rattle.plan.specs.File.{addAnswer}
 use Rattle.plan.proofs.Tests.{failed, passed}
 use Rattle.plan.proofs.Good.{points-is, add-exactly}
 use Rattle.cell.specs.Steps.{adding}

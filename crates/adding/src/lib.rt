@@ -1,5 +1,4 @@
 // Add: one more limit on two tables of a plan file. It is total: it takes any bytes, any limit and any slices.
-ghost use mathlib.Core.Path.{_≡_};
 ghost use Rattle.rules.specs.Plan.{version1};
 ghost use Rattle.rules.specs.Cells.{tableOf};
 ghost use Rattle.rules.specs.Tables.{Closed};

@@ -1,16 +1,16 @@
 -- Laws of what Add's sweeps start from. Assumes nothing.
-use mathlib.Core.Path.{_≡_, refl, sym, ap, subst, _∙_}
+use mathlib.Core.Path.{_≡_, sym, ap, subst, _∙_}
 use mathlib.Core.List.{List}
 use Prim.Native.Nat.{ℕ, zero, _+_, _*_, _≤_, _<_}
 use native.Mathlib.Omega.{arith}
-use lib.ListN.{length, drop, getD, length-drop}
+use lib.ListN.{length, drop, length-drop}
 use lib.Seq.{length-take-le, getD-take, getD-drop, ext-getD}
 use lib.IntN.{ℤ, pos}
 use Rattle.whole.proofs.Place.{inside}
 use Rattle.rules.specs.Plan.{Limit, version1}
-use Rattle.rules.specs.Cells.{Cell, tableOf}
+use Rattle.rules.specs.Cells.{tableOf}
 use Rattle.rules.specs.Calls.{Kept}
-use Rattle.cell.specs.Steps.{adding, cell32, cell64, Stored}
+use Rattle.cell.specs.Steps.{adding, cell64, Stored}
 use Rattle.tables.specs.Table.{Sound}
 use Rattle.tables.specs.Sweep.{limitCell, firstOpen}
 use Rattle.tables.specs.Fair.{AllWithin}

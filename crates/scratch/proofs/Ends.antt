@@ -1,7 +1,7 @@
 -- How Add's sweeps end, of the paper: the plan of the strict cells and the new limit is uncontrollable, or both parts are its tables. Assumes nothing.
 use mathlib.Core.Path.{_≡_, refl, sym, ap, subst, _∙_}
 use mathlib.Core.Bool.{Bool, true, false}
-use mathlib.Core.Logic.{_⊎_, inl, inr, ⊎-elim}
+use mathlib.Core.Logic.{inl, inr, ⊎-elim}
 use mathlib.Core.List.{List}
 use Prim.Native.Nat.{ℕ, zero, _+_, _*_, _-_, _≤_, _<_}
 use native.Mathlib.Omega.{arith}
@@ -14,15 +14,14 @@ use Rattle.whole.proofs.Place.{inside, Spot, spot}
 use Rattle.rules.specs.Plan.{Limit, Link, Plan, Ranges, Coherent, version1, InRange, LimitInRange}
 use Rattle.rules.specs.Walks.{Uncontrollable}
 use Rattle.rules.specs.Edges.{Derivable, Open}
-use Rattle.rules.specs.Cells.{Cell, num, Within, Table, tableOf}
+use Rattle.rules.specs.Cells.{num, Within, Table, tableOf}
 use Rattle.rules.specs.Tables.{Least, Tables, Closed}
 use Rattle.rules.specs.Additions.{withCells}
 use Rattle.rules.proofs.Points.{Pointed, Weighted}
-use Rattle.rules.specs.Calls.{cellsOf, Kept, Beyond, Written}
+use Rattle.rules.specs.Calls.{Kept, Beyond}
 use Rattle.cell.specs.Steps.{adding, cell64}
-use Rattle.tables.specs.Table.{Sound}
 use Rattle.tables.specs.Sweep.{lowerCell, markAll, diagonalAll, firstOpen, sweepStrict, sweepOpen}
-use Rattle.tables.proofs.Lowering.{Lowered, iter-lowered}
+use Rattle.tables.proofs.Lowering.{iter-lowered}
 use Rattle.tables.proofs.First.{marks}
 use Rattle.tables.proofs.Starts.{marks-sound}
 use Rattle.tables.proofs.Settled.{AllLinks}

@@ -10,7 +10,7 @@ use borrow.Rule.Slice.PartMut.{putMid}
 use Rattle.whole.proofs.Place.{inside}
 use Rattle.rules.specs.Plan.{Ranges}
 use Rattle.tables.specs.Table.{Sound}
-use Rattle.tables.proofs.Lowering.{Lowered, Lowers}
+use Rattle.tables.proofs.Lowering.{Lowers}
 use Rattle.tables.proofs.Turns.{Turns, turns-none, turns-more, turns-all}
 use Rattle.tables.specs.Sweep.{iter}
 use Rattle.scratch.specs.Swept.{strictPart, openPart, Both}

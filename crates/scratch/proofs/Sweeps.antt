@@ -7,7 +7,7 @@ use Prim.Native.Nat.{ℕ, _+_, _*_, _≤_}
 use native.Mathlib.Omega.{arith}
 use lib.ListN.{length}
 use lib.IntN.{ℤ}
-use Rattle.rules.specs.Plan.{Link, Ranges}
+use Rattle.rules.specs.Plan.{Link}
 use Rattle.plan.specs.Layout.{linkAt}
 use Rattle.cell.specs.Steps.{adding}
 use Rattle.tables.specs.Table.{Sound, Ready}

@@ -1,10 +1,9 @@
 // The result of the sweeps back into the lent tables, and the scratch cleared.
-ghost use mathlib.Core.Path.{_≡_};
 ghost use Prim.Native.Nat.{_+_, _*_, _≤_};
 ghost use lib.ListN.{length};
 ghost use lib.IntN.{pos};
 ghost use Rattle.rules.specs.Calls.{Filled};
-ghost use Rattle.scratch.specs.Swept.{strictPart, openPart};
+ghost use Rattle.scratch.specs.Swept.{openPart};
 ghost use Rattle.scratch.specs.Copies.{Narrowed, InReach};
 use crate::copies::clear;
 use crate::copies::narrow;

@@ -3,7 +3,6 @@ ghost use mathlib.Core.Path.{_≡_};
 ghost use Prim.Native.Nat.{_+_, _*_, _≤_, _<_};
 ghost use lib.ListN.{length};
 ghost use Rattle.cell.specs.Steps.{adding, cell64};
-ghost use Rattle.tables.specs.Table.{Sound};
 ghost use Rattle.tables.specs.Sweep.{lowerCell, openRow, openAll};
 ghost use Rattle.scratch.specs.Swept.{strictPart, openPart, Both};
 use cell::wide::Cell64;

@@ -2,7 +2,6 @@
 ghost use mathlib.Core.Path.{_≡_};
 ghost use mathlib.Core.Logic.{_⊎_};
 ghost use Prim.Native.Nat.{_+_, _*_, _≤_};
-ghost use lib.ListN.{length};
 ghost use Rattle.cell.specs.Steps.{adding};
 ghost use Rattle.plan.specs.Layout.{linkAt};
 ghost use Rattle.tables.specs.Table.{Ready};

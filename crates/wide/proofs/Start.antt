@@ -1,8 +1,8 @@
 -- Add's sweep starts from the strict cells and the new limit, at 64 bits. For closed tables of a plan in range that is a start for Add's plan: every cell
 -- has its walk, every given edge is held, the diagonals are 0. Assumes nothing.
 use mathlib.Core.Path.{_≡_, refl, sym, subst, _∙_}
-use mathlib.Core.Logic.{_≢_, _⊎_, ⊎-elim}
-use mathlib.Core.List.{List, _∷_, List·Memᴰ, List·Memᴰ·head, List·Memᴰ·tail, List·Memᴰ·cases-cons}
+use mathlib.Core.Logic.{⊎-elim}
+use mathlib.Core.List.{List, List·Memᴰ, List·Memᴰ·head, List·Memᴰ·tail, List·Memᴰ·cases-cons}
 use Prim.Native.Nat.{ℕ, zero, _*_, _≤_, _<_}
 use native.Mathlib.Decide.{ℕ-discrete}
 use native.Mathlib.Omega.{arith}
@@ -10,21 +10,20 @@ use lib.ListN.{length}
 use lib.IntN.{ℤ, pos, negℤ}
 use lib.Signed.{_≤ℤ_, ≤ℤ-refl}
 use Rattle.whole.proofs.Order.{ints, neg}
-use Rattle.rules.specs.Plan.{Limit, Link, Plan, Ranges, Coherent, version1, LimitInRange, InRange}
+use Rattle.rules.specs.Plan.{Limit, Plan, Coherent, version1, LimitInRange, InRange}
 use Rattle.rules.specs.Edges as edges
 use Rattle.rules.specs.Edges.{Given, Derivable, Open}
-use Rattle.rules.specs.Walks.{Walk, stay}
+use Rattle.rules.specs.Walks.{stay}
 use Rattle.rules.specs.Cells.{Cell, mark, num, _≤ᶜ_, Within, Table, tableOf}
 use Rattle.rules.specs.Tables.{Closed}
-use Rattle.rules.specs.Additions.{tableLimits, withCells}
+use Rattle.rules.specs.Additions.{withCells}
 use Rattle.rules.proofs.Cells.{same-number}
 use Rattle.rules.proofs.Walks.{single, Dominated, exactly}
 use Rattle.rules.proofs.Points.{Pointed, Weighted, in-range-pointed, in-range-weighted}
 use Rattle.rules.proofs.CellLimits.{FromCell, table-limit, table-has, cells-pointed}
 use Rattle.cell.specs.Steps.{adding, Stored}
 use Rattle.cell.proofs.Cells.{≤ᶜ-refl, ≤ᶜ-trans}
-use Rattle.tables.specs.Table.{Sound}
-use Rattle.tables.specs.Sweep.{lowerCell, limitCell, firstOpen, markAll, diagonalAll}
+use Rattle.tables.specs.Sweep.{limitCell, firstOpen, markAll}
 use Rattle.tables.proofs.Lowering.{Lowered, cell-lowered}
 use Rattle.tables.proofs.Walked.{Has, Walked, cell-walked}
 use Rattle.tables.proofs.First.{marks-walked, diagonal-walked, diagonal-below, cell-below}

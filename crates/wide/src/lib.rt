@@ -33,7 +33,7 @@ pub fn get(t: &[i64], n: usize, x: usize, y: usize) -> Cell64
 }
 
 // The cell x to y written.
-pub fn put(t: &mut [i64], n: usize, x: usize, y: usize, c: Cell64)
+fn put(t: &mut [i64], n: usize, x: usize, y: usize, c: Cell64)
     requires { ⌜ (x < n) × (y < n) × (n * n ≤ length (now t)) × (n ≤ 64) ⌝ }
     ensures { λ r. ⌜ now (t .exit) ≡ set (now (t .entry)) (x * n + y) (c .v) ⌝ }
 {

@@ -4,8 +4,6 @@ use native.Mathlib.Omega.{arith}
 use Rattle.whole.proofs.Place.{inside, within, square-le}
 use Rattle.wide.proofs.get.Statement.{statement}
 use Rattle.wide.proofs.get.Tie as tie
-use Rattle.wide.proofs.get.Reads as reads
-use Rattle.wide.proofs.get.Lts as lts
 
 mul-t5 : tie.Need-mul-t5
 mul-t5 c = omega (arith, inside (c .pre .0) (c .pre .1), square-le (c .pre .3))

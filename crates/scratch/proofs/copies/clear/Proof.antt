@@ -2,10 +2,8 @@
 use borrow.Author.Needs.{needs}
 use native.Mathlib.Omega.{arith}
 use Prim.Native.Nat.{_-_}
-use mathlib.Core.Path.{_≡_, refl, sym, ap, _∙_}
-use lib.ListN.{getD}
+use mathlib.Core.Path.{_≡_, refl}
 use lib.IntN.{pos}
-use Rattle.cell.specs.Steps.{cell32, cell64}
 use Rattle.scratch.proofs.Copying.{Copying, copying-none, copying-more, all-filled}
 use Rattle.scratch.proofs.copies.clear.Statement.{statement}
 use Rattle.scratch.proofs.copies.clear.Tie as tie

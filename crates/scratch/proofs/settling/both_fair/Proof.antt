@@ -1,12 +1,8 @@
 -- `settling::both_fair` meets its contract: one part is looked at after the other. Assumes nothing.
-use mathlib.Core.Path.{sym, subst}
 use mathlib.Core.Logic.{inl}
 use Prim.Native.Nat.{_*_}
 use borrow.Author.Tests.{not-true, not-false}
-use Rattle.tables.specs.Fair.{Fair, Unfair, Looked}
 use Rattle.tables.proofs.Seen.{looked-no, looked-also}
-use Rattle.cell.specs.Steps.{adding}
-use Rattle.tables.specs.Table.{Sound}
 use Rattle.scratch.proofs.Parts.{half-room, front-length, rest}
 use borrow.Author.Needs.{needs}
 use Rattle.scratch.proofs.settling.both_fair.Statement.{statement}

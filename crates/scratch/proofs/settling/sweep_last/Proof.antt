@@ -1,6 +1,6 @@
 -- `settling::sweep_last` meets its contract: the open table's part is lent. Assumes nothing.
 use mathlib.Core.Path.{ap, _∙_}
-use Prim.Native.Nat.{_*_, _-_, _≤_}
+use Prim.Native.Nat.{_*_, _-_}
 use lib.ListN.{length}
 use borrow.Rule.Slice.PartMut.{take-put}
 use Rattle.plan.specs.Layout.{linkAt}

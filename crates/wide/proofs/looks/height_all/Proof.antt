@@ -3,7 +3,7 @@ use borrow.Author.Needs.{needs}
 use mathlib.Core.Path.{_≡_, refl, ap, _∙_}
 use Prim.Native.Nat.{_+_, _-_, _≤_}
 use native.Mathlib.Omega.{arith}
-use Rattle.cell.specs.Steps.{adding, cell64}
+use Rattle.cell.specs.Steps.{adding}
 use Rattle.tables.specs.Sweep.{heights}
 use Rattle.tables.proofs.Seen.{held-read, heights-most, heights-more}
 use Rattle.wide.proofs.looks.height_all.Statement.{statement}
