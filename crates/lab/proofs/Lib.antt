@@ -1,0 +1,3 @@
+pub mod Carried
+pub mod Joined
+pub mod Rounds
