@@ -36,7 +36,7 @@ use Rattle.tables.proofs.Walked.{Has, has-sum, has-lowered, has-uppered
 -- ---- what is stored, and what was meant
 
 -- what is stored of a cell at most T is at most T, where T is in reach
-stored-at-most : (reach : ℕ) (c : Cell) {T : ℤ} → negℤ (pos reach) ≤ℤ T → T ≤ℤ pos reach → AtMost c T → AtMost (clamped reach c) T
+pub stored-at-most : (reach : ℕ) (c : Cell) {T : ℤ} → negℤ (pos reach) ≤ℤ T → T ≤ℤ pos reach → AtMost c T → AtMost (clamped reach c) T
 stored-at-most reach mark lo hi a = a
 stored-at-most reach (num c) {T} lo hi a = by (clamping reach c)
   where
@@ -49,7 +49,7 @@ stored-at-most reach (num c) {T} lo hi a = by (clamping reach c)
     by (inside k l) = record { value = c; is = refl; le = c≤T }
 
 -- a cell in reach that is at most what was stored is at most what was meant, where it is in reach at all if that is a number
-exact : (reach : ℕ) (cell d : Cell) → Within reach cell → ((c : ℤ) → d ≡ num c → AtMost cell (pos reach)) → cell ≤ᶜ clamped reach d
+pub exact : (reach : ℕ) (cell d : Cell) → Within reach cell → ((c : ℤ) → d ≡ num c → AtMost cell (pos reach)) → cell ≤ᶜ clamped reach d
     → cell ≤ᶜ d
 exact reach cell mark w j h = top cell
 exact reach cell (num c) w j h = by (clamping reach c) h
