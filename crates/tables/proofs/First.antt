@@ -15,7 +15,7 @@ use Rattle.whole.proofs.Order.{ints, neg}
 use Rattle.whole.proofs.Place.{inside}
 use Rattle.rules.specs.Plan.{Limit, Link, Plan, Ranges, Coherent}
 use Rattle.rules.specs.Edges as edges
-use Rattle.rules.specs.Edges.{Given, Derivable}
+use Rattle.rules.specs.Edges.{Given}
 use Rattle.rules.specs.Walks.{stay}
 use Rattle.rules.specs.Cells.{Cell, mark, num, _≤ᶜ_, cellOf, tableOf}
 use Rattle.rules.proofs.Walks.{single, exactly}
@@ -150,12 +150,12 @@ module _ (p : Plan) (r : Ranges) (h : Coherent r) (g : Pointed p) (b : Weighted 
       (λ u su. cell-below r h (p .points) x x (pos zero) u hx hx su (omega (ints, neg (pos (r .reach)))) (omega ints)) t s
 
   -- start edges
-  pub start-walked : (t : List ℤ) → Walked (Derivable p) r (p .points) t → Walked (Derivable p) r (p .points) (startAll r (p .points) t)
+  pub start-walked : (E : ℕ → ℕ → ℤ → Type 0) (inc : (x y : ℕ) (w : ℤ) → Given p x y w → E x y w) (t : List ℤ) → Walked E r (p .points) t → Walked E r (p .points) (startAll r (p .points) t)
   unfolding startAll
-  start-walked t w =
-      iter-keeps (Walked (Derivable p) r (p .points)) (p .points) (λ x. lowerCell r (p .points) x zero (num (pos zero)))
+  start-walked E inc t w =
+      iter-keeps (Walked E r (p .points)) (p .points) (λ x. lowerCell r (p .points) x zero (num (pos zero)))
       (λ x hx u k.
-      cell-walked (Derivable p) r h (p .points) x zero (num (pos zero)) u hx (g .some-point) (exactly (single (edges.given (edges.start hx)))) k)
+      cell-walked E r h (p .points) x zero (num (pos zero)) u hx (g .some-point) (exactly (single (inc _ _ _ (edges.start hx)))) k)
       t w
 
   pub start-lowered : (t : List ℤ) → Sound r (p .points) t → Lowered r (p .points) t (startAll r (p .points) t)
@@ -185,15 +185,15 @@ module _ (p : Plan) (r : Ranges) (h : Coherent r) (g : Pointed p) (b : Weighted 
         limit-lowers r h (p .points) limit count (λ i hi. g .limit-from (limit i) (a .member i hi))
         (λ i hi. g .limit-to (limit i) (a .member i hi))
 
-    pub limit-walked : (t : List ℤ) → Walked (Derivable p) r (p .points) t
-        → Walked (Derivable p) r (p .points) (limitAll r (p .points) limit count t)
+    pub limit-walked : (E : ℕ → ℕ → ℤ → Type 0) (inc : (x y : ℕ) (w : ℤ) → Given p x y w → E x y w) (t : List ℤ) → Walked E r (p .points) t
+        → Walked E r (p .points) (limitAll r (p .points) limit count t)
     unfolding limitAll limitCell
-    limit-walked t w =
-        iter-keeps (Walked (Derivable p) r (p .points)) count (λ i. limitCell r (p .points) (limit i))
+    limit-walked E inc t w =
+        iter-keeps (Walked E r (p .points)) count (λ i. limitCell r (p .points) (limit i))
         (λ i hi u k.
-        cell-walked (Derivable p) r h (p .points) (limit i .from) (limit i .to) (num (limit i .weight)) u
+        cell-walked E r h (p .points) (limit i .from) (limit i .to) (num (limit i .weight)) u
         (g .limit-from (limit i) (a .member i hi)) (g .limit-to (limit i) (a .member i hi))
-        (exactly (single (edges.given (edges.limit (a .member i hi))))) k)
+        (exactly (single (inc _ _ _ (edges.limit (a .member i hi))))) k)
         t w
 
     pub limit-lowered : (t : List ℤ) → Sound r (p .points) t → Lowered r (p .points) t (limitAll r (p .points) limit count t)
@@ -216,18 +216,18 @@ module _ (p : Plan) (r : Ranges) (h : Coherent r) (g : Pointed p) (b : Weighted 
     link-lowers : Lowers r (p .points) count (λ i. linkEdges r (p .points) (link i))
     link-lowers = edges-lowers r h (p .points) link count (a .links .points)
 
-    pub link-walked : (t : List ℤ) → Walked (Derivable p) r (p .points) t
-        → Walked (Derivable p) r (p .points) (linkAll r (p .points) link count t)
+    pub link-walked : (E : ℕ → ℕ → ℤ → Type 0) (inc : (x y : ℕ) (w : ℤ) → Given p x y w → E x y w) (t : List ℤ) → Walked E r (p .points) t
+        → Walked E r (p .points) (linkAll r (p .points) link count t)
     unfolding linkAll linkEdges
-    link-walked t w =
-        iter-keeps (Walked (Derivable p) r (p .points)) count (λ i. linkEdges r (p .points) (link i))
+    link-walked E inc t w =
+        iter-keeps (Walked E r (p .points)) count (λ i. linkEdges r (p .points) (link i))
         (λ i hi u k.
         let m : List·Memᴰ (link i) (p .links) = a .links .member i hi in
-        cell-walked (Derivable p) r h (p .points) (link i .con) (link i .act) (num (negℤ (pos (link i .short))))
+        cell-walked E r h (p .points) (link i .con) (link i .act) (num (negℤ (pos (link i .short))))
         (lowerCell r (p .points) (link i .act) (link i .con) (num (pos (link i .long))) u) (g .link-con (link i) m) (g .link-act (link i) m)
-        (exactly (single (edges.given (edges.shortest m))))
-        (cell-walked (Derivable p) r h (p .points) (link i .act) (link i .con) (num (pos (link i .long))) u (g .link-act (link i) m)
-        (g .link-con (link i) m) (exactly (single (edges.given (edges.longest m)))) k))
+        (exactly (single (inc _ _ _ (edges.shortest m))))
+        (cell-walked E r h (p .points) (link i .act) (link i .con) (num (pos (link i .long))) u (g .link-act (link i) m)
+        (g .link-con (link i) m) (exactly (single (inc _ _ _ (edges.longest m)))) k))
         t w
 
     pub link-lowered : (t : List ℤ) → Sound r (p .points) t → Lowered r (p .points) t (linkAll r (p .points) link count t)

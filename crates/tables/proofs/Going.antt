@@ -66,13 +66,13 @@ module _ (p : Plan) (r : Ranges) (h : Coherent r) (g : Pointed p) (b : Weighted 
     t₅ : List ℤ
     t₅ = linkAll r (p .points) link links t₄
 
-    w₁ : Walked (Derivable p) r (p .points) t₁
+    w₁ : (E : ℕ → ℕ → ℤ → Type 0) → Walked E r (p .points) t₁
     unfolding t₁
-    w₁ = marks-walked (Derivable p) r (p .points) t room
+    w₁ E = marks-walked E r (p .points) t room
 
     l₂ : Lowered r (p .points) t₁ t₂
     unfolding t₂
-    l₂ = diagonal-lowered p r h g b t₁ (w₁ .sound)
+    l₂ = diagonal-lowered p r h g b t₁ (w₁ (Given p) .sound)
 
     l₃ : Lowered r (p .points) t₂ t₃
     unfolding t₃
@@ -92,11 +92,12 @@ module _ (p : Plan) (r : Ranges) (h : Coherent r) (g : Pointed p) (b : Weighted 
     l₃₅ : Lowered r (p .points) t₂ t₅
     l₃₅ = lowered-trans r (p .points) t₂ t₃ t₅ l₃ l₄₅
 
-    w₅ : Walked (Derivable p) r (p .points) t₅
+    -- over any edges that hold the given ones
+    w₅ : (E : ℕ → ℕ → ℤ → Type 0) → ((x y : ℕ) (w : ℤ) → Given p x y w → E x y w) → Walked E r (p .points) t₅
     unfolding t₂ t₃ t₄ t₅
-    w₅ =
-        link-walked p r h g b link links ak t₄
-        (start-walked p r h g b t₃ (limit-walked p r h g b limit limits al t₂ (diagonal-walked p r h g b (Derivable p) t₁ w₁)))
+    w₅ E inc =
+        link-walked p r h g b link links ak E inc t₄
+        (start-walked p r h g b E inc t₃ (limit-walked p r h g b limit limits al E inc t₂ (diagonal-walked p r h g b E t₁ (w₁ E))))
 
     below₅ : (x y : ℕ) (w : ℤ) → Given p x y w → tableOf r (p .points) t₅ x y ≤ᶜ num w
     unfolding t₃ t₄ t₅
@@ -113,7 +114,7 @@ module _ (p : Plan) (r : Ranges) (h : Coherent r) (g : Pointed p) (b : Weighted 
     unfolding t₂
     diagonal₅ x hx =
         ≤ᶜ-trans (tableOf r (p .points) t₅ x x) (tableOf r (p .points) t₂ x x) (num (pos zero)) (l₃₅ .down x x hx hx)
-        (diagonal-below p r h g b t₁ (w₁ .sound) x hx)
+        (diagonal-below p r h g b t₁ (w₁ (Given p) .sound) x hx)
 
     -- the first strict table leaves what lies past the room
     pub first-strict-kept : Kept (p .points * p .points) t (firstStrict r (p .points) limit limits link links t)
@@ -126,6 +127,12 @@ module _ (p : Plan) (r : Ranges) (h : Coherent r) (g : Pointed p) (b : Weighted 
     unfolding firstOpen t₁ t₂
     first-open-kept = kept-trans (marks-kept (marks r (p .points * p .points) t room)) (lowered-kept l₂)
 
+  -- the first strict table has walks of given edges
+  pub first-given : (t : List ℤ) (room : p .points * p .points ≤ length t)
+      → Walked (Given p) r (p .points) (firstStrict r (p .points) limit limits link links t)
+  unfolding firstStrict t₁ t₂ t₃ t₄ t₅
+  first-given t room = w₅ t room (Given p) (λ x y w e. e)
+
   -- the sweeps start
   pub first-going : (strict weak : List ℤ) → p .points * p .points ≤ length strict → p .points * p .points ≤ length weak
       → Going p r (firstStrict r (p .points) limit limits link links strict) (firstOpen r (p .points) weak)
@@ -134,7 +141,7 @@ module _ (p : Plan) (r : Ranges) (h : Coherent r) (g : Pointed p) (b : Weighted 
       let open-marks : Walked (Open p) r (p .points) (markAll r (p .points * p .points) weak) =
       marks-walked (Open p) r (p .points) weak wr in
       record {
-        strict-walks = w₅ strict sr;
+        strict-walks = w₅ strict sr (Derivable p) (λ x y w e. edges.given e);
         open-walks = diagonal-walked p r h g b (Open p) (markAll r (p .points * p .points) weak) open-marks;
         given-below = below₅ strict sr;
         strict-diagonal = diagonal₅ strict sr;

@@ -5,6 +5,7 @@ pub mod Steps
 pub mod Walked
 pub mod Spreads
 pub mod Settled
+pub mod Warshall
 pub mod Heights
 pub mod First
 pub mod Going
