@@ -5,10 +5,13 @@ pub mod Steps
 pub mod Walked
 pub mod Spreads
 pub mod Settled
-pub mod Warshall
 pub mod Heights
 pub mod First
 pub mod Going
+pub mod Warshall
+pub mod Joined
+pub mod Rounds
+pub mod Begun
 pub mod Turns
 pub mod Ready
 pub mod Links

@@ -131,3 +131,37 @@ module _ (r : Ranges) (h : Coherent r) (n : ℕ) where
     pub open-round-lowered : (strict t : List ℤ) → Sound r n t → Lowered r n t (openRound r n strict link count t)
     unfolding openRound
     open-round-lowered strict t s = iter-lowered r n count (λ i. followLink r n strict link count (link i)) (follow-link-lowers strict) t s
+
+-- ---- walks
+
+module _ (E : ℕ → ℕ → ℤ → Type 0) (r : Ranges) (h : Coherent r) (n : ℕ) where
+  -- a row by what leads to a point
+  row-by-walked : (y x : ℕ) (a : Cell) → y < n → x < n → Has E x y a → (t : List ℤ) → Walked E r n t → Walked E r n (rowBy r n y x a t)
+  unfolding rowBy joinCell
+  row-by-walked y x a hy hx k t w =
+      iter-keeps (Walked E r n) n (joinCell r n y x a)
+      (λ z hz u m.
+      cell-walked E r h n x z (a +ᶜ tableOf r n u y z) u hx hz (has-sum E x y z a (tableOf r n u y z) k (m .has y z hy hz)) m)
+      t w
+
+  -- an edge that has its walk, spread
+  spread-walked : (a b : ℕ) (w : Cell) → a < n → b < n → Has E a b w → (t : List ℤ) → Walked E r n t → Walked E r n (spreadAll r n a b w t)
+  unfolding spreadAll spreadRow
+  spread-walked a b w ha hb k t m =
+      iter-keeps (Walked E r n) n (spreadRow r n a b w)
+      (λ x hx u v.
+      by-test (Walked E r n) (belowᶜ (tableOf r n u x a +ᶜ w) (tableOf r n u x b))
+      (row-by-walked b x (tableOf r n u x a +ᶜ w) hb hx (has-sum E x a b (tableOf r n u x a) w (v .has x a hx ha) k) u v) v)
+      t m
+
+  -- and taken where it lowers
+  pub edge-walked : (a b : ℕ) (c : Cell) → a < n → b < n → Has E a b c → (t : List ℤ) → Walked E r n t → Walked E r n (newEdge r n a b c t)
+  unfolding newEdge takeEdge
+  edge-walked a b c ha hb k t m =
+      let w : Cell = clamped (r .reach) c in
+      let kw : Has E a b w = has-stored E a b (r .reach) c k in
+      by-test (Walked E r n) (belowᶜ w (tableOf r n t a b))
+      (by-test (Walked E r n) (belowᶜ (w +ᶜ tableOf r n t b a) (num (pos zero)))
+      (cell-walked E r h n a a (w +ᶜ tableOf r n t b a) t ha ha (has-sum E a b a w (tableOf r n t b a) kw (m .has b a hb ha)) m)
+      (spread-walked a b w ha hb kw t m))
+      m

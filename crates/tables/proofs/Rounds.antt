@@ -23,16 +23,15 @@ use Rattle.rules.proofs.Justified.{justified-closed}
 use Rattle.rules.proofs.Settled.{as-open}
 use Rattle.cell.specs.Steps.{clamped}
 use Rattle.cell.proofs.Cells.{≤ᶜ-trans, ≤ᶜ-mark, clamped-within}
 use Rattle.tables.specs.Table.{Sound}
 use Rattle.tables.specs.Fair.{Fair}
 use Rattle.tables.specs.Sweep.{iter}
 use Rattle.tables.specs.Spread.{newEdge, lowerEdge, lowerEdges, lowerRound, upperEdge, upperEdges, upperRound, strictRound, caseEdge, caseEdges, followLower, followLowers, followUpper, followUppers, followLink, openRound}
 use Rattle.tables.proofs.Lowering.{Lowered, Lowers, iter-lowered, iter-fixed, iter-keeps, both-fixed}
 use Rattle.tables.proofs.Walked.{Has, has-lowered, has-uppered, has-open, Walked, PlanLinks}
 use Rattle.tables.proofs.Settled.{exact, AllLinks}
-use Rattle.tables.proofs.Spreads.{edge-lowered, lower-edge-lowers, lower-edges-lowers, lower-round-lowered, upper-edge-lowers, upper-edges-lowered, upper-edges-lowers, upper-round-lowered, case-edge-lowers, follow-lower-lowers, follow-lowers-lowers, follow-link-lowers, follow-upper-lowers, follow-uppers-lowered, strict-round-lowered, open-round-lowered}
-use Rattle.lab.proofs.Carried.{edge-walked}
-use Rattle.lab.proofs.Joined.{Shut, fair-before, edge-shut, edge-under}
+use Rattle.tables.proofs.Spreads.{edge-walked, edge-lowered, lower-edge-lowers, lower-edges-lowers, lower-round-lowered, upper-edge-lowers, upper-edges-lowered, upper-edges-lowers, upper-round-lowered, case-edge-lowers, follow-lower-lowers, follow-lowers-lowers, follow-link-lowers, follow-upper-lowers, follow-uppers-lowered, strict-round-lowered, open-round-lowered}
+use Rattle.tables.proofs.Joined.{Shut, fair-before, edge-shut, edge-under}
 
 -- a table over a family of edges, as rounds carry it
 pub record Carried (E : ℕ → ℕ → ℤ → Type 0) (p : Plan) (r : Ranges) (t : List ℤ) : Type 0 where

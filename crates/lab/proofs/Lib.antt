@@ -1,3 +1,0 @@
-pub mod Carried
-pub mod Joined
-pub mod Rounds
