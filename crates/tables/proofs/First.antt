@@ -149,8 +149,9 @@ module _ (p : Plan) (r : Ranges) (h : Coherent r) (g : Pointed p) (b : Weighted 
       x hx
       (λ u su. cell-below r h (p .points) x x (pos zero) u hx hx su (omega (ints, neg (pos (r .reach)))) (omega ints)) t s
 
-  -- start edges
-  pub start-walked : (E : ℕ → ℕ → ℤ → Type 0) (inc : (x y : ℕ) (w : ℤ) → Given p x y w → E x y w) (t : List ℤ) → Walked E r (p .points) t → Walked E r (p .points) (startAll r (p .points) t)
+  -- start edges, as walks of any edges that hold the given ones; so the limits and the links below
+  pub start-walked : (E : ℕ → ℕ → ℤ → Type 0) (inc : (x y : ℕ) (w : ℤ) → Given p x y w → E x y w) (t : List ℤ)
+      → Walked E r (p .points) t → Walked E r (p .points) (startAll r (p .points) t)
   unfolding startAll
   start-walked E inc t w =
       iter-keeps (Walked E r (p .points)) (p .points) (λ x. lowerCell r (p .points) x zero (num (pos zero)))
@@ -185,8 +186,8 @@ module _ (p : Plan) (r : Ranges) (h : Coherent r) (g : Pointed p) (b : Weighted 
         limit-lowers r h (p .points) limit count (λ i hi. g .limit-from (limit i) (a .member i hi))
         (λ i hi. g .limit-to (limit i) (a .member i hi))
 
-    pub limit-walked : (E : ℕ → ℕ → ℤ → Type 0) (inc : (x y : ℕ) (w : ℤ) → Given p x y w → E x y w) (t : List ℤ) → Walked E r (p .points) t
-        → Walked E r (p .points) (limitAll r (p .points) limit count t)
+    pub limit-walked : (E : ℕ → ℕ → ℤ → Type 0) (inc : (x y : ℕ) (w : ℤ) → Given p x y w → E x y w) (t : List ℤ)
+        → Walked E r (p .points) t → Walked E r (p .points) (limitAll r (p .points) limit count t)
     unfolding limitAll limitCell
     limit-walked E inc t w =
         iter-keeps (Walked E r (p .points)) count (λ i. limitCell r (p .points) (limit i))
@@ -216,8 +217,8 @@ module _ (p : Plan) (r : Ranges) (h : Coherent r) (g : Pointed p) (b : Weighted 
     link-lowers : Lowers r (p .points) count (λ i. linkEdges r (p .points) (link i))
     link-lowers = edges-lowers r h (p .points) link count (a .links .points)
 
-    pub link-walked : (E : ℕ → ℕ → ℤ → Type 0) (inc : (x y : ℕ) (w : ℤ) → Given p x y w → E x y w) (t : List ℤ) → Walked E r (p .points) t
-        → Walked E r (p .points) (linkAll r (p .points) link count t)
+    pub link-walked : (E : ℕ → ℕ → ℤ → Type 0) (inc : (x y : ℕ) (w : ℤ) → Given p x y w → E x y w) (t : List ℤ)
+        → Walked E r (p .points) t → Walked E r (p .points) (linkAll r (p .points) link count t)
     unfolding linkAll linkEdges
     link-walked E inc t w =
         iter-keeps (Walked E r (p .points)) count (λ i. linkEdges r (p .points) (link i))

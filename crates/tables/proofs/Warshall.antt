@@ -99,6 +99,7 @@ data Path (p : Plan) (k : ℕ) : ℕ → ℕ → ℤ → ℕ → Type 0 where
   edge : {x y : ℕ} {w : ℤ} → Given p x y w → Path p k x y w 1
   more : {x y z : ℕ} {v w : ℤ} {l : ℕ} → Given p x y v → y < k → Path p k y z w l → Path p k x z (v +ℤ w) (suc l)
 
+-- it has an edge
 some-edge : {p : Plan} {k x z : ℕ} {s : ℤ} {l : ℕ} → Path p k x z s l → 1 ≤ l
 some-edge (edge e) = omega arith
 some-edge (more e hy t) = omega arith
@@ -177,14 +178,17 @@ module _ (p : Plan) (k : ℕ) where
 data Via (p : Plan) (k x : ℕ) : ℕ → ℕ → ℤ → Type 0 where
   via : {a b : ℕ} {w : ℤ} → (a ≡ x) ⊎ (a < k) → Given p a b w → Via p k x a b (pos zero)
 
+-- which never fall below 0
 via-least : {p : Plan} {k x a b : ℕ} {t : ℤ} → Walk (Via p k x) a b t → pos zero ≤ℤ t
 via-least stay = ≤ℤ-refl (pos zero)
 via-least (step {w} (via s e) q) = omega (ints, via-least q, plus (pos zero) w)
 
+-- a walk of such edges, of some total
 record Way (p : Plan) (k x a b : ℕ) : Type 0 where
   total : ℤ
   walk : Walk (Via p k x) a b total
 
+-- a path is one
 way : {p : Plan} {k x a b : ℕ} {s : ℤ} {l : ℕ} → (a ≡ x) ⊎ (a < k) → Path p k a b s l → Way p k x a b
 way i (edge e) = record { total = pos zero +ℤ pos zero; walk = step (via i e) stay }
 way {p} {k} {x} i (more {y} {z} e hy t) =
@@ -210,6 +214,7 @@ record Brief (p : Plan) (k x z : ℕ) : Type 0 where
   few-edges : count < p .points
   path : Some p k x z count
 
+-- a trail that does not come back to x is empty or a path
 trail-brief : {p : Plan} {k x a z : ℕ} {c : ℤ} {ps : List ℕ} → Trail (Via p k x) a z c ps → (List·Memᴰ x ps → ⊥) → length ps < p .points
     → (a ≡ z) ⊎ Brief p k a z
 trail-brief stop away f = inl refl
@@ -267,6 +272,7 @@ module _ (p : Plan) (g : Pointed p) where
       let rest : Some p (p .points) y z (suc (length ps)) = given-path f q in
       record { total = v +ℤ rest .total; path = more e (given-ends p g e .to) (rest .path) }
 
+  -- so a trail is empty or a path, of as many edges
   given-brief : {x z : ℕ} {s : ℤ} {ps : List ℕ} → Trail (Given p) x z s ps → length ps < p .points → (x ≡ z) ⊎ Brief p (p .points) x z
   given-brief stop f = inl refl
   given-brief (go {ps} e q) f = inr (record { count = suc (length ps); few-edges = f; path = given-path e q })
@@ -360,6 +366,7 @@ module _ (p : Plan) (r : Ranges) (h : Coherent r) (g : Pointed p) (b : Weighted 
   path-most zero hk = most-first
   path-most (suc k) hk = most-next k hk (path-most k (omega arith))
 
+  -- so the cell of a pair joined over points below k is in reach
   brief-most : (k : ℕ) → k ≤ p .points → {x z : ℕ} → x < p .points → z < p .points → (x ≡ z) ⊎ Brief p k x z
       → AtMost (tableOf r (p .points) (after k) x z) (pos (r .reach))
   brief-most k hk {x} {z} hx hz (inl e) =
@@ -380,6 +387,7 @@ module _ (p : Plan) (r : Ranges) (h : Coherent r) (g : Pointed p) (b : Weighted 
   -- ---- from above, exactly: where nothing speaks against the plan, a path's cell is at most its total
 
   module _ (fair : Fair r (p .points) (joinAll r (p .points) t)) where
+    -- no cell was under the reach on the way
     after-within : (k : ℕ) → k ≤ p .points → (x y : ℕ) → x < p .points → y < p .points → Within (r .reach) (tableOf r (p .points) (after k) x y)
     after-within k hk x y hx hy =
         by (tableOf r (p .points) (joinAll r (p .points) t) x y) (tableOf r (p .points) (after k) x y) (fair .within x y hx hy)
@@ -391,11 +399,14 @@ module _ (p : Plan) (r : Ranges) (h : Coherent r) (g : Pointed p) (b : Weighted 
         by (num c) (num d) i j l = (omega (ints, i .0, l), j .1)
 
     -- a path back to its first point has no total below 0
-    loop-least : (k : ℕ) → k ≤ p .points → (x : ℕ) (s : ℤ) → x < p .points → AtMost (tableOf r (p .points) (after k) x x) s → pos zero ≤ℤ s
+    loop-least : (k : ℕ) → k ≤ p .points → (x : ℕ) (s : ℤ) → x < p .points → AtMost (tableOf r (p .points) (after k) x x) s
+        → pos zero ≤ℤ s
     loop-least k hk x s hx a =
         by-at-most {c = num (pos zero)} {w = s}
-        (under {c = num (pos zero)} (≤ᶜ-trans (num (pos zero)) (tableOf r (p .points) (joinAll r (p .points) t) x x) (tableOf r (p .points) (after k) x x) (fair .diagonal x hx)
-        (end-lowered k hk .down x x hx hx)) a)
+        (under {c = num (pos zero)}
+        (≤ᶜ-trans (num (pos zero)) (tableOf r (p .points) (joinAll r (p .points) t) x x) (tableOf r (p .points) (after k) x x)
+        (fair .diagonal x hx) (end-lowered k hk .down x x hx hx))
+        a)
 
     -- after k middles a path's cell is at most its total
     abbrev Exact : ℕ → Type 0
