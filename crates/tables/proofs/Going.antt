@@ -185,6 +185,15 @@ module _ (p : Plan) (r : Ranges) (h : Coherent r) (g : Pointed p) (link : ℕ �
 -- ---- how they end
 
 module _ (p : Plan) (r : Ranges) (h : Coherent r) (g : Pointed p) (b : Weighted (r .weight) p) (few : p .points ≤ r .points)
+    (link : ℕ → Link) (links : ℕ) (ak : AllLinks p link links) where
+  -- an unfair table, each cell of which has its open walk: the plan is uncontrollable
+  pub unfair-walk : (t : List ℤ) → ((x y : ℕ) → x < p .points → y < p .points → Has (Open p) x y (tableOf r (p .points) t x y))
+      → Unfair r (p .points) t → Uncontrollable p
+  unfair-walk t has (low {x} {y} {c} hx hy e lo) =
+      low-uncontrollable p r h g b few link links ak x y c hx (subst (Has (Open p) x y) e (has x y hx hy)) lo
+  unfair-walk t has (negative {x} {c} hx e lo) = negative-diagonal p (subst (Has (Open p) x x) e (has x x hx hx)) lo
+
+module _ (p : Plan) (r : Ranges) (h : Coherent r) (g : Pointed p) (b : Weighted (r .weight) p) (few : p .points ≤ r .points)
     (link : ℕ → Link) (links : ℕ) (ak : AllLinks p link links) (strict weak : List ℤ) (s : Going p r strict weak) where
   -- a sweep that changed nothing, and two fair tables: these are the plan's tables
   pub going-ends : sweepStrict r (p .points) link links strict ≡ strict → sweepOpen r (p .points) link links strict weak ≡ weak
@@ -205,17 +214,10 @@ module _ (p : Plan) (r : Ranges) (h : Coherent r) (g : Pointed p) (b : Weighted 
         given-below = s .given-below;
       })
 
-  -- an unfair table, each cell of which has its open walk: the plan is uncontrollable
-  unfair-walk : (t : List ℤ) → ((x y : ℕ) → x < p .points → y < p .points → Has (Open p) x y (tableOf r (p .points) t x y))
-      → Unfair r (p .points) t → Uncontrollable p
-  unfair-walk t has (low {x} {y} {c} hx hy e lo) =
-      low-uncontrollable p r h g b few link links ak x y c hx (subst (Has (Open p) x y) e (has x y hx hy)) lo
-  unfair-walk t has (negative {x} {c} hx e lo) = negative-diagonal p (subst (Has (Open p) x x) e (has x x hx hx)) lo
-
   -- an unfair strict table, or an unfair open one
   pub unfair-strict : Unfair r (p .points) strict → Uncontrollable p
   unfair-strict u =
-      unfair-walk strict (λ x y hx hy. has-open p x y (tableOf r (p .points) strict x y) (s .strict-walks .has x y hx hy)) u
+      unfair-walk p r h g b few link links ak strict (λ x y hx hy. has-open p x y (tableOf r (p .points) strict x y) (s .strict-walks .has x y hx hy)) u
 
   pub unfair-open : Unfair r (p .points) weak → Uncontrollable p
-  unfair-open u = unfair-walk weak (s .open-walks .has) u
+  unfair-open u = unfair-walk p r h g b few link links ak weak (s .open-walks .has) u

@@ -19,4 +19,5 @@ pub mod Starts
 pub mod Sounds
 pub mod Seen
 pub mod Standing
+pub mod Stands
 pub mod Minus
