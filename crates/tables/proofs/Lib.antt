@@ -3,6 +3,7 @@ pub mod Numbers
 pub mod Lowering
 pub mod Steps
 pub mod Walked
+pub mod Spreads
 pub mod Settled
 pub mod Heights
 pub mod First

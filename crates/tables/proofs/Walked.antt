@@ -28,7 +28,7 @@ Has E x y (num c) = Dominated E x y c
 
 -- ---- what yields such cells
 
-has-stored : (E : ℕ → ℕ → ℤ → Type 0) (x y : ℕ) (reach : ℕ) (c : Cell) → Has E x y c → Has E x y (clamped reach c)
+pub has-stored : (E : ℕ → ℕ → ℤ → Type 0) (x y : ℕ) (reach : ℕ) (c : Cell) → Has E x y c → Has E x y (clamped reach c)
 has-stored E x y reach mark h = tt
 has-stored E x y reach (num c) h = by (clamping reach c)
   where
