@@ -9,6 +9,7 @@ pub mod Heights
 pub mod First
 pub mod Going
 pub mod Turns
+pub mod Edges
 pub mod Ready
 pub mod Links
 pub mod Starts

@@ -5,8 +5,8 @@ mod looks;
 mod lowers;
 mod opening;
 mod settling;
-mod starting;
 mod spreading;
+mod starting;
 mod timing;
 mod uppers;
 
