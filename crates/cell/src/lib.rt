@@ -115,21 +115,15 @@ impl Cell32 {
         o
     }
 
-    // Join: the sum of the cells P to Q and Q to R, exact. The mark is never added as a number.
+    // Join: the sum of the cells P to Q and Q to R, exact.
     pub fn add(self, o: Cell32) -> Cell32
         requires { ⌜ Stored (version1 .reach) (cell32 (self .v)) × Stored (version1 .reach) (cell32 (o .v)) ⌝ }
         ensures { λ r. ⌜ cell32 (r .v) ≡ cell32 (self .v) +ᶜ cell32 (o .v) ⌝ }
     {
-        if self.is_mark() {
-            return self;
-        }
-        if o.is_mark() {
-            return o;
-        }
-        self.plus(o)
+        self.onward(o)
     }
 
-    // Join by a way of two cells: its sum and the cell from there, exact. The mark is never added as a number.
+    // Join where the first cell may be such a sum already: a way of two cells, and the cell from there. The mark is never added as a number.
     pub fn onward(self, o: Cell32) -> Cell32
         requires { ⌜ Summed (version1 .reach) (cell32 (self .v)) × Stored (version1 .reach) (cell32 (o .v)) ⌝ }
         ensures { λ r. ⌜ cell32 (r .v) ≡ cell32 (self .v) +ᶜ cell32 (o .v) ⌝ }
