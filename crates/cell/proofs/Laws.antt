@@ -19,7 +19,7 @@ use Rattle.whole.proofs.Bits.{signed, kept, back, abs, by-nonNeg, lt-ltZ, le-lt
 use Rattle.rules.specs.Plan.{Ranges, Link, version1}
 use Rattle.rules.specs.Edges.{spread}
 use Rattle.rules.specs.Cells.{Cell, mark, num, cellOf, _+ᶜ_, lowered, uppered, Within}
-use Rattle.cell.specs.Steps.{adding, isMark, belowᶜ, Stored, clamped, height, Decides}
+use Rattle.cell.specs.Steps.{adding, isMark, belowᶜ, Stored, Summed, clamped, height, Decides}
 
 -- ---- the mark and the numbers beside it
 
@@ -111,10 +111,10 @@ cast-cell n {a} h k i l = rw (cast-is h k, i) (number-is n a l)
 
 -- ---- what is asked of a width and its ranges
 
--- the mark is the largest number of the type, and two cells of the reach and their floors add up below it
+-- the mark is the largest number of the type, and three cells of the reach and their floors add up below it
 pub record Room (w : Width) (r : Ranges) : Type 0 where
   pub top : suc (r .mark) ≡ 2 ^ hbits w
-  pub wide : r .reach + r .reach + 2 ≤ r .mark
+  pub wide : r .reach + r .reach + r .reach + 3 ≤ r .mark
   pub weight : r .weight ≤ r .reach
 
 -- the two widths and their ranges have that room
@@ -138,6 +138,29 @@ number {r} a e f s =
     let i : cellOf (r .mark) a ≡ num a = no-mark (r .mark) a e f in
     let t : Stored (r .reach) (num a) = rw i at s in
     record { is = i; least = t .0; most = t .1 }
+
+-- a cell that is the sum of two such numbers
+pub record Sum (r : Ranges) (a : ℤ) : Type 0 where
+  pub is : cellOf (r .mark) a ≡ num a
+  pub least : negsuc (r .reach + suc (r .reach)) ≤ℤ a
+  pub most : a ≤ℤ pos (r .reach + suc (r .reach))
+
+-- from a sum for which the test for the mark did not hold
+pub sum : {r : Ranges} (a : ℤ) {b : Bool} → b ≡ isMark (cellOf (r .mark) a) → b ≡ false → Summed (r .reach) (cellOf (r .mark) a) → Sum r a
+sum {r} a e f s =
+    let i : cellOf (r .mark) a ≡ num a = no-mark (r .mark) a e f in
+    let t : Summed (r .reach) (num a) = rw i at s in
+    record { is = i; least = t .0; most = t .1 }
+
+-- a cell that a sweep holds is within the range of sums, and so is the sum of two
+pub stored-summed : (reach : ℕ) (c : Cell) → Stored reach c → Summed reach c
+stored-summed reach mark s = tt
+stored-summed reach (num a) s = (omega ints, omega ints)
+
+pub summed : (reach : ℕ) (a b : Cell) → Stored reach a → Stored reach b → Summed reach (a +ᶜ b)
+summed reach mark b s t = tt
+summed reach (num a) mark s t = tt
+summed reach (num a) (num b) s t = (omega (ints, plus a b), omega (ints, plus a b))
 
 -- such a cell is one that a sweep may hold
 pub number-stored : {r : Ranges} {a : ℤ} → Number r a → Stored (r .reach) (cellOf (r .mark) a)
@@ -182,6 +205,14 @@ module _ {w : Width} {r : Ranges} (room : Room w r) where
   -- Join: the sum of two numbers of the reach
   pub join : {a b : ℤ} → Number r a → Number r b → Exact w r (a +ℤ b) (cellOf (r .mark) a +ᶜ cellOf (r .mark) b)
   join {a} {b} x y =
+      record {
+        fits = omega (signed, plus a b);
+        is = rw (x .is, y .is) (number-is (r .mark) (a +ℤ b) (omega (signed, plus a b)));
+      }
+
+  -- Join by a way of two cells: their sum and a number of the reach
+  pub join-far : {a b : ℤ} → Sum r a → Number r b → Exact w r (a +ℤ b) (cellOf (r .mark) a +ᶜ cellOf (r .mark) b)
+  join-far {a} {b} x y =
       record {
         fits = omega (signed, plus a b);
         is = rw (x .is, y .is) (number-is (r .mark) (a +ℤ b) (omega (signed, plus a b)));

@@ -42,6 +42,10 @@ abbrev pub Stored : ℕ → Cell → Type 0
 Stored reach mark = Unit {0}
 Stored reach (num c) = (negsuc reach ≤ℤ c) × (c ≤ℤ pos reach)
 
+-- the sum of two cells that a sweep holds
+abbrev pub Summed : ℕ → Cell → Type 0
+Summed reach c = Stored (reach + suc reach) c
+
 -- a cell as a sweep stores it: a number above the reach is no path, one below it is the floor
 abbrev pub clamped : ℕ → Cell → Cell
 clamped reach mark = mark

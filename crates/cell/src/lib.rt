@@ -13,7 +13,7 @@ ghost use Rattle.whole.specs.Signed.{larger};
 ghost use Rattle.rules.specs.Plan.{Link, version1};
 ghost use Rattle.rules.specs.Edges.{spread as spreadOf};
 ghost use Rattle.rules.specs.Cells.{mark, _+ᶜ_, lowered, uppered, Within};
-ghost use Rattle.cell.specs.Steps.{cell32, isMark, belowᶜ, smallerᶜ, Stored, clamped, height, Decides};
+ghost use Rattle.cell.specs.Steps.{cell32, isMark, belowᶜ, smallerᶜ, Stored, Summed, clamped, height, Decides};
 
 // A cell of the paper's tables. The mark is 2,147,483,647, the reach 63,000,000.
 pub struct Cell32 {
@@ -115,9 +115,17 @@ impl Cell32 {
         o
     }
 
-    // Join: the sum of the cells P to Q and Q to R, exact. The mark is never added as a number.
+    // Join: the sum of the cells P to Q and Q to R, exact.
     pub fn add(self, o: Cell32) -> Cell32
         requires { ⌜ Stored (version1 .reach) (cell32 (self .v)) × Stored (version1 .reach) (cell32 (o .v)) ⌝ }
+        ensures { λ r. ⌜ cell32 (r .v) ≡ cell32 (self .v) +ᶜ cell32 (o .v) ⌝ }
+    {
+        self.onward(o)
+    }
+
+    // Join where the first cell may be such a sum already: a way of two cells, and the cell from there. The mark is never added as a number.
+    pub fn onward(self, o: Cell32) -> Cell32
+        requires { ⌜ Summed (version1 .reach) (cell32 (self .v)) × Stored (version1 .reach) (cell32 (o .v)) ⌝ }
         ensures { λ r. ⌜ cell32 (r .v) ≡ cell32 (self .v) +ᶜ cell32 (o .v) ⌝ }
     {
         if self.is_mark() {

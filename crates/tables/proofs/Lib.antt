@@ -13,11 +13,11 @@ pub mod Joined
 pub mod Rounds
 pub mod Begun
 pub mod Turns
+pub mod Edges
 pub mod Ready
 pub mod Links
 pub mod Starts
 pub mod Sounds
 pub mod Seen
 pub mod Standing
-pub mod Stands
 pub mod Minus

@@ -1,11 +1,14 @@
 -- Laws that the walks through the first tables and the open table cite: the mark written cell by cell, and the numbers of given edges as cells.
 -- At version 1's ranges, since they speak of what the code's 32-bit cells are. Assumes nothing.
-use mathlib.Core.Path.{_≡_, refl, ap, _∙_}
+use mathlib.Core.Path.{_≡_, refl, sym, ap, subst, _∙_}
+use mathlib.Core.Logic.{⊎-elim}
 use mathlib.Core.List.{List}
 use Prim.Native.Nat.{ℕ, zero, _+_, _*_, _≤_, _<_}
+use native.Mathlib.Nat.{not-suc-le-zero, eq-or-lt-of-le, le-of-suc-le-suc}
 use native.Mathlib.Numerals.{add-one}
 use native.Mathlib.Omega.{arith}
 use lib.ListN.{length, getD, set, length-set}
+use lib.Seq.{getD-set-same, getD-set-other}
 use lib.IntN.{ℤ, pos, negsuc, negℤ}
 use lib.Signed.{_≤ℤ_}
 use mir.Syntax.{w32}
@@ -19,6 +22,7 @@ use Rattle.cell.specs.Steps.{cell32}
 use Rattle.cell.proofs.Laws.{room32, in-range, weight-number, negation-fits}
 use Rattle.tables.specs.Table.{Sound, Ready}
 use Rattle.tables.specs.Sweep.{lowerCell, markAll, openCell, linkEdges}
+use Rattle.tables.specs.Spread.{Copied}
 use Rattle.tables.proofs.Turns.{read-cell}
 use Rattle.tables.proofs.Links.{lowering-by}
 use Rattle.tables.proofs.First.{marks-walked}
@@ -54,6 +58,41 @@ marking-all {r} {m} {i} {start} {now} t h =
 -- a table of marks is one that a sweep stores
 pub marks-sound : (r : Ranges) (n : ℕ) (t : List ℤ) → n * n ≤ length t → Sound r n (markAll r (n * n) t)
 marks-sound r n t h = marks-walked (λ x y w. Unit {0}) r n t h .sound
+
+-- ---- cells copied
+
+-- i of the m turns of a loop that copies a cell
+pub record Copying (m i : ℕ) (from start now : List ℤ) : Type 0 where
+  pub bound : i ≤ m
+  pub copied : Copied i from start now
+
+pub copying-none : {m : ℕ} {from t : List ℤ} → Copying m 0 from t t
+copying-none =
+    record {
+      bound = omega arith;
+      copied = record { length-same = refl; same = λ i h. absurd (not-suc-le-zero h); beyond-same = λ i h. refl };
+    }
+
+pub copying-more : {m i : ℕ} {from start now : List ℤ} (v : ℤ) → m ≤ length start → Copying m i from start now → i < m
+    → v ≡ getD from i (pos zero) → Copying m (i + 1) from start (set now i v)
+copying-more {m} {i} {from} {start} {now} v room c h e =
+    let inside : i < length now = omega (arith, c .copied .length-same) in
+    record {
+      bound = omega arith;
+      copied = record {
+        length-same = length-set now i v ∙ c .copied .length-same;
+        same = λ j k.
+            ⊎-elim
+            (λ f. subst (λ (l : ℕ). getD (set now i v) l (pos zero) ≡ getD from l (pos zero)) (sym f) (getD-set-same now i v (pos zero) inside ∙ e))
+            (λ l. getD-set-other now i j v (pos zero) (omega arith) ∙ c .copied .same j l) (eq-or-lt-of-le (le-of-suc-le-suc (rw add-one at k)));
+        beyond-same = λ j k. getD-set-other now i j v (pos zero) (omega arith) ∙ c .copied .beyond-same j (omega arith);
+      };
+    }
+
+pub copying-all : {m i : ℕ} {from start now : List ℤ} → Copying m i from start now → m ≤ i → Copied m from start now
+copying-all {m} {i} {from} {start} {now} c h =
+    let e : i ≡ m = omega (arith, c .bound) in
+    rw (← e) (c .copied)
 
 -- ---- the numbers of edges
 

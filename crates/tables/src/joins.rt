@@ -3,9 +3,25 @@ ghost use mathlib.Core.Path.{_≡_};
 ghost use Prim.Native.Nat.{_≤_, _<_};
 ghost use Rattle.rules.specs.Plan.{version1};
 ghost use Rattle.tables.specs.Table.{Sound};
+ghost use Rattle.cell.specs.Steps.{cell32, Summed};
 ghost use Rattle.tables.specs.Sweep.{joinRow, joinMiddle, joinAll};
+ghost use Rattle.tables.specs.Spread.{rowBy};
 use crate::get;
 use crate::lower_cell;
+use cell::Cell32;
+
+// Row x by the cells from y, with a what leads from x to y.
+pub fn row_by(t: &mut [i32], n: usize, y: usize, x: usize, a: Cell32)
+    requires { ⌜ (x < n) × (y < n) × (n ≤ 64) × Sound version1 n (now t) × Summed (version1 .reach) (cell32 (a .v)) ⌝ }
+    ensures { λ r. ⌜ now (t .exit) ≡ rowBy version1 n y x (cell32 (a .v)) (now (t .entry)) ⌝ }
+{
+    let mut z = 0;
+    while z < n {
+        let c = get(t, n, y, z);
+        lower_cell(t, n, x, z, a.onward(c));
+        z += 1;
+    }
+}
 
 // Row x by the middle y, with the cell x to y taken out of the loop.
 fn join_row(t: &mut [i32], n: usize, y: usize, x: usize)
@@ -16,12 +32,7 @@ fn join_row(t: &mut [i32], n: usize, y: usize, x: usize)
     if a.is_mark() {
         return;
     }
-    let mut z = 0;
-    while z < n {
-        let c = get(t, n, y, z);
-        lower_cell(t, n, x, z, a.add(c));
-        z += 1;
-    }
+    row_by(t, n, y, x, a);
 }
 
 // Every row by the middle y.

@@ -1,20 +1,20 @@
-// Lower: for each link, and then for the contingent point of each other link.
+// Lower: for each of the links, for each second link. It reads and writes the strict table.
 ghost use mathlib.Core.Path.{_≡_};
 ghost use Prim.Native.Nat.{_≤_, _<_};
 ghost use Rattle.rules.specs.Plan.{version1, LinkInRange};
 ghost use Rattle.plan.specs.Layout.{linkAt};
 ghost use Rattle.plan.specs.Values.{linkOf};
 ghost use Rattle.tables.specs.Table.{Sound, Ready};
-ghost use Rattle.tables.specs.Sweep.{lowerPair, lowerLink, lowerAll};
+ghost use Rattle.tables.specs.Spread.{lowerEdge, lowerEdges, lowerRound};
 use crate::get;
-use crate::lower_cell;
+use crate::spreading::new_edge;
 use plan::Link;
 use plan::link_at;
 
 // For the link a and the contingent point of the link b, if another.
-fn lower_pair(t: &mut [i32], n: usize, a: Link, b: Link)
+fn lower_edge(t: &mut [i32], n: usize, a: Link, b: Link)
     requires { ⌜ (n ≤ 64) × LinkInRange version1 n (linkOf a) × LinkInRange version1 n (linkOf b) × Sound version1 n (now t) ⌝ }
-    ensures { λ r. ⌜ now (t .exit) ≡ lowerPair version1 n (linkOf a) (linkOf b) (now (t .entry)) ⌝ }
+    ensures { λ r. ⌜ now (t .exit) ≡ lowerEdge version1 n (linkOf a) (linkOf b) (now (t .entry)) ⌝ }
 {
     if b.con == a.con {
         return;
@@ -23,31 +23,31 @@ fn lower_pair(t: &mut [i32], n: usize, a: Link, b: Link)
     let by = a.con as usize;
     let to = b.con as usize;
     let c = get(t, n, by, to);
-    lower_cell(t, n, from, to, c.lower(a.short, b.long - b.short));
+    new_edge(t, n, from, to, c.lower(a.short, b.long - b.short));
 }
 
 // For the link at index i and each of the links.
-fn lower_link(file: &[u8], n: usize, m: u32, k: u32, t: &mut [i32], i: u32)
+fn lower_edges(file: &[u8], n: usize, m: u32, k: u32, t: &mut [i32], i: u32)
     requires { ⌜ (i < k) × Ready (now file) n m k × Sound version1 n (now t) ⌝ }
-    ensures { λ r. ⌜ now (t .exit) ≡ lowerLink version1 n (linkAt (now (file .entry)) m) k (linkAt (now (file .entry)) m i) (now (t .entry)) ⌝ }
+    ensures { λ r. ⌜ now (t .exit) ≡ lowerEdges version1 n (linkAt (now (file .entry)) m) k (linkAt (now (file .entry)) m i) (now (t .entry)) ⌝ }
 {
     let a = link_at(file, m, i);
     let mut j = 0;
     while j < k {
         let b = link_at(file, m, j);
-        lower_pair(t, n, a, b);
+        lower_edge(t, n, a, b);
         j += 1;
     }
 }
 
 // For each of the links.
-pub fn lower_all(file: &[u8], n: usize, m: u32, k: u32, t: &mut [i32])
+pub fn lower_round(file: &[u8], n: usize, m: u32, k: u32, t: &mut [i32])
     requires { ⌜ Ready (now file) n m k × Sound version1 n (now t) ⌝ }
-    ensures { λ r. ⌜ now (t .exit) ≡ lowerAll version1 n (linkAt (now (file .entry)) m) k (now (t .entry)) ⌝ }
+    ensures { λ r. ⌜ now (t .exit) ≡ lowerRound version1 n (linkAt (now (file .entry)) m) k (now (t .entry)) ⌝ }
 {
     let mut i = 0;
     while i < k {
-        lower_link(file, n, m, k, t, i);
+        lower_edges(file, n, m, k, t, i);
         i += 1;
     }
 }

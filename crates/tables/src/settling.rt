@@ -1,30 +1,43 @@
-// Sweeps until both tables stay, or until one of them speaks against the plan.
+// Both tables from a plan file: the given edges joined, then rounds of Lower and Upper, each edge of which goes through both tables at once, until the strict one
+// stays or one of them speaks against the plan. Both are looked at in every round: without the open one the strict cells of a plan can fall for ever.
 ghost use mathlib.Core.Path.{_≡_};
 ghost use mathlib.Core.Logic.{_⊎_};
-ghost use Prim.Native.Nat.{_+_, _*_, _≤_};
+ghost use Prim.Native.Nat.{_*_, _≤_};
 ghost use lib.ListN.{length};
 ghost use Rattle.rules.specs.Plan.{version1};
 ghost use Rattle.rules.specs.Calls.{Written};
-ghost use Rattle.plan.specs.Layout.{linkAt, planOf};
+ghost use Rattle.plan.specs.Layout.{limitAt, linkAt, planOf};
 ghost use Rattle.tables.specs.Table.{Sound, Ready};
-ghost use Rattle.tables.specs.Sweep.{sweepStrict, sweepOpen, heights};
+ghost use Rattle.tables.specs.Sweep.{joinAll, firstStrict};
+ghost use Rattle.tables.specs.Spread.{strictRound};
 ghost use Rattle.tables.specs.Fair.{Fair, Unfair, Looked};
 ghost use Rattle.tables.specs.Ends.{Refused};
+use crate::joins::join_all;
 use crate::looks::fair;
 use crate::looks::height_all;
-use crate::starting::first_open;
+use crate::lowers::lower_round;
+use crate::opening::case_edges;
+use crate::opening::copy_all;
+use crate::opening::open_round;
 use crate::starting::first_strict;
-use crate::sweep::sweep_open;
-use crate::sweep::sweep_strict;
+use crate::uppers::upper_round;
 
-// One sweep of both tables.
-fn sweep_both(file: &[u8], n: usize, m: u32, k: u32, strict: &mut [i32], open: &mut [i32])
-    requires { ⌜ Ready (now file) n m k × Sound version1 n (now strict) × Sound version1 n (now «open») ⌝ }
-    ensures first { λ r. ⌜ now (strict .exit) ≡ sweepStrict version1 n (linkAt (now (file .entry)) m) k (now (strict .entry)) ⌝ }
-    ensures second { λ r. ⌜ now («open» .exit) ≡ sweepOpen version1 n (linkAt (now (file .entry)) m) k (now (strict .exit)) (now («open» .entry)) ⌝ }
+// The strict table of the given edges, joined.
+fn joined_strict(file: &[u8], n: usize, m: u32, k: u32, t: &mut [i32])
+    requires { ⌜ Ready (now file) n m k × (n * n ≤ length (now t)) ⌝ }
+    ensures { λ r. ⌜ now (t .exit) ≡ joinAll version1 n (firstStrict version1 n (limitAt (now (file .entry))) m (linkAt (now (file .entry)) m) k (now (t .entry))) ⌝ }
 {
-    sweep_strict(file, n, m, k, strict);
-    sweep_open(file, n, m, k, strict, open);
+    first_strict(file, n, m, k, t);
+    join_all(t, n);
+}
+
+// A round of the strict table: Lower, then Upper.
+fn strict_round(file: &[u8], n: usize, m: u32, k: u32, t: &mut [i32])
+    requires { ⌜ Ready (now file) n m k × Sound version1 n (now t) ⌝ }
+    ensures { λ r. ⌜ now (t .exit) ≡ strictRound version1 n (linkAt (now (file .entry)) m) k (now (t .entry)) ⌝ }
+{
+    lower_round(file, n, m, k, t);
+    upper_round(file, n, m, k, t);
 }
 
 // Whether nothing in both tables speaks against the plan.
@@ -38,31 +51,25 @@ fn both_fair(strict: &[i32], open: &[i32], n: usize) -> bool
     fair(open, n)
 }
 
-// How far both tables can still fall, together.
-fn both_heights(strict: &[i32], open: &[i32], n: usize) -> u64
-    requires { ⌜ (n ≤ 64) × Sound version1 n (now strict) × Sound version1 n (now «open») ⌝ }
-    ensures { λ r. ⌜ r ≡ heights version1 (n * n) (now (strict .entry)) + heights version1 (n * n) (now («open» .entry)) ⌝ }
-{
-    height_all(strict, n * n) + height_all(open, n * n)
-}
-
 // Both tables from a plan file: true with the plan's tables, false where the plan is uncontrollable.
 pub fn settle(file: &[u8], n: usize, m: u32, k: u32, strict: &mut [i32], open: &mut [i32]) -> bool
     requires { ⌜ Ready (now file) n m k × (n * n ≤ length (now strict)) × (n * n ≤ length (now «open»)) ⌝ }
     ensures { λ r. ⌜ Looked r (Written version1 (planOf (now (file .entry))) (now (strict .entry)) (now («open» .entry)) (now (strict .exit)) (now («open» .exit))) (Refused (planOf (now (file .entry))) (now (strict .entry)) (now («open» .entry)) (now (strict .exit)) (now («open» .exit))) ⌝ }
 {
-    first_strict(file, n, m, k, strict);
-    first_open(open, n);
-    let mut last = both_heights(strict, open, n);
+    joined_strict(file, n, m, k, strict);
+    copy_all(strict, open, n * n);
+    case_edges(file, n, m, k, open);
+    let mut last = height_all(strict, n * n);
     loop {
-        sweep_both(file, n, m, k, strict, open);
         if !both_fair(strict, open, n) {
             return false;
         }
-        let next = both_heights(strict, open, n);
+        strict_round(file, n, m, k, strict);
+        let next = height_all(strict, n * n);
         if next == last {
             return true;
         }
         last = next;
+        open_round(file, n, m, k, strict, open);
     }
 }

@@ -6,7 +6,7 @@ ghost use Rattle.rules.specs.Plan.{version1, LimitInRange, LinkInRange};
 ghost use Rattle.plan.specs.Layout.{limitAt, linkAt};
 ghost use Rattle.plan.specs.Values.{limitOf, linkOf};
 ghost use Rattle.tables.specs.Table.{Sound, Ready};
-ghost use Rattle.tables.specs.Sweep.{markAll, diagonalAll, limitCell, limitAll, startAll, linkEdges, linkAll, firstStrict, firstOpen};
+ghost use Rattle.tables.specs.Sweep.{markAll, diagonalAll, limitCell, limitAll, startAll, linkEdges, linkAll, firstStrict};
 use crate::lower_cell;
 use cell::Cell32;
 use plan::Limit;
@@ -109,13 +109,4 @@ pub fn first_strict(file: &[u8], n: usize, m: u32, k: u32, t: &mut [i32])
     limit_all(file, n, m, k, t);
     start_all(t, n);
     link_all(file, n, m, k, t);
-}
-
-// The open table to start with.
-pub fn first_open(t: &mut [i32], n: usize)
-    requires { ⌜ (n ≤ 64) × (n * n ≤ length (now t)) ⌝ }
-    ensures { λ r. ⌜ now (t .exit) ≡ firstOpen version1 n (now (t .entry)) ⌝ }
-{
-    mark_all(t, n * n);
-    diagonal_all(t, n);
 }

@@ -1,48 +1,48 @@
-// Upper: from each point, for each of the links. It reads and writes the strict table.
+// Upper: for each of the links, from each point. It reads and writes the strict table.
 ghost use mathlib.Core.Path.{_≡_};
 ghost use Prim.Native.Nat.{_≤_, _<_};
 ghost use Rattle.rules.specs.Plan.{version1, LinkInRange};
 ghost use Rattle.plan.specs.Layout.{linkAt};
 ghost use Rattle.plan.specs.Values.{linkOf};
 ghost use Rattle.tables.specs.Table.{Sound, Ready};
-ghost use Rattle.tables.specs.Sweep.{upperCell, upperPoint, upperAll};
+ghost use Rattle.tables.specs.Spread.{upperEdge, upperEdges, upperRound};
 use crate::get;
-use crate::lower_cell;
+use crate::spreading::new_edge;
 use plan::Link;
 use plan::link_at;
 
-// From the point x, for the link a.
-fn upper_cell(t: &mut [i32], n: usize, x: usize, a: Link)
+// For the link a, from the point x.
+fn upper_edge(t: &mut [i32], n: usize, a: Link, x: usize)
     requires { ⌜ (x < n) × (n ≤ 64) × LinkInRange version1 n (linkOf a) × Sound version1 n (now t) ⌝ }
-    ensures { λ r. ⌜ now (t .exit) ≡ upperCell version1 n x (linkOf a) (now (t .entry)) ⌝ }
+    ensures { λ r. ⌜ now (t .exit) ≡ upperEdge version1 n (linkOf a) x (now (t .entry)) ⌝ }
 {
     let by = a.con as usize;
     let to = a.act as usize;
     let c = get(t, n, x, by);
-    lower_cell(t, n, x, to, c.upper(a.short, a.long));
+    new_edge(t, n, x, to, c.upper(a.short, a.long));
 }
 
-// From the point x, for each of the links.
-fn upper_point(file: &[u8], n: usize, m: u32, k: u32, t: &mut [i32], x: usize)
-    requires { ⌜ (x < n) × Ready (now file) n m k × Sound version1 n (now t) ⌝ }
-    ensures { λ r. ⌜ now (t .exit) ≡ upperPoint version1 n (linkAt (now (file .entry)) m) k x (now (t .entry)) ⌝ }
+// For the link a, from each point.
+fn upper_edges(t: &mut [i32], n: usize, a: Link)
+    requires { ⌜ (n ≤ 64) × LinkInRange version1 n (linkOf a) × Sound version1 n (now t) ⌝ }
+    ensures { λ r. ⌜ now (t .exit) ≡ upperEdges version1 n (linkOf a) (now (t .entry)) ⌝ }
+{
+    let mut x = 0;
+    while x < n {
+        upper_edge(t, n, a, x);
+        x += 1;
+    }
+}
+
+// For each of the links.
+pub fn upper_round(file: &[u8], n: usize, m: u32, k: u32, t: &mut [i32])
+    requires { ⌜ Ready (now file) n m k × Sound version1 n (now t) ⌝ }
+    ensures { λ r. ⌜ now (t .exit) ≡ upperRound version1 n (linkAt (now (file .entry)) m) k (now (t .entry)) ⌝ }
 {
     let mut i = 0;
     while i < k {
         let a = link_at(file, m, i);
-        upper_cell(t, n, x, a);
+        upper_edges(t, n, a);
         i += 1;
-    }
-}
-
-// From each point.
-pub fn upper_all(file: &[u8], n: usize, m: u32, k: u32, t: &mut [i32])
-    requires { ⌜ Ready (now file) n m k × Sound version1 n (now t) ⌝ }
-    ensures { λ r. ⌜ now (t .exit) ≡ upperAll version1 n (linkAt (now (file .entry)) m) k (now (t .entry)) ⌝ }
-{
-    let mut x = 0;
-    while x < n {
-        upper_point(file, n, m, k, t, x);
-        x += 1;
     }
 }

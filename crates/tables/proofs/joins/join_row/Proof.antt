@@ -1,34 +1,24 @@
--- `joins::join_row` meets its contract: a row whose cell to the middle is the mark stays, and else a turn for each cell of it. Assumes nothing.
-use mathlib.Core.Path.{sym, _∙_}
-use Prim.Native.Nat.{_-_}
-use native.Mathlib.Omega.{arith}
-use Rattle.rules.specs.Plan.{version1}
-use Rattle.rules.proofs.Demands.{version1-coherent}
-use Rattle.cell.specs.Steps.{cell32}
-use Rattle.cell.proofs.Laws.{is-mark as mark-read}
-use Rattle.tables.specs.Sweep.{joinCell}
-use Rattle.tables.proofs.Turns.{Turns, turns-none, turns-more, turns-all, row-at-mark, read-stored, read-cell, join-cell-is, join-row-is}
-use Rattle.tables.proofs.Steps.{cell-lowers}
+-- `joins::join_row` meets its contract: a row whose cell to the middle is the mark stays, and else it is taken by that cell. Assumes nothing.
 use borrow.Author.Needs.{needs}
+use mathlib.Core.Path.{sym, _∙_}
+use Rattle.rules.specs.Plan.{version1}
+use Rattle.cell.proofs.Laws.{is-mark as mark-read, stored-summed}
+use Rattle.cell.specs.Steps.{cell32}
+use Rattle.tables.specs.Spread.{rowBy}
+use Rattle.tables.proofs.Turns.{row-at-mark, read-stored, read-cell, join-row-is}
 use Rattle.tables.proofs.joins.join_row.Statement.{statement}
 use Rattle.tables.proofs.joins.join_row.Tie as tie
 
-abbrev Inv-loop : tie.InvT-loop
-Inv-loop t₀ n y x a z₀ t z = Turns version1 n n (joinCell version1 n y x (cell32 (a .v))) z t₀ t
-
-abbrev μ-loop : tie.MeasureT-loop
-μ-loop t₀ n y x a z₀ t z = n - z
-
-get-requires : tie.Need-get-requires Inv-loop μ-loop
+get-requires : tie.Need-get-requires
 get-requires c κs = search needs
 
-is-mark-requires : tie.Need-is-mark-requires Inv-loop μ-loop
+is-mark-requires : tie.Need-is-mark-requires
 is-mark-requires c κs = search needs
 
-same-length : tie.Need-same-length Inv-loop μ-loop
+same-length : tie.Need-same-length
 same-length c = search needs
 
-returns : tie.Need-returns Inv-loop μ-loop
+returns : tie.Need-returns
 returns c =
     let s = c .before .before .before .before in
     let get = c .before .before .get in
@@ -39,72 +29,31 @@ returns c =
     (row-at-mark version1 (s .args .n) (s .args .y) (s .args .x) (s .args .t .now)
     (sym (read-cell version1 (s .args .n) (s .args .x) (s .args .y) (s .args .t .now) (get .result .v) (get .ensures)) ∙ cell))
 
-loop-holds : tie.Need-loop-holds Inv-loop μ-loop
-loop-holds c =
-    let s = c .before .before .before .before in
-    turns-none (s .pre .3)
+row-by-requires : tie.Need-row-by-requires
+row-by-requires c κs =
+    let s = c .before .before .before .before .before in
+    let get = c .before .before .before .get in
+    (s .pre .0, s .pre .1, s .pre .2, s .pre .3, stored-summed (version1 .reach) (cell32 (get .result .v)) (read-stored version1 (s .args .n) (s .args .x) (s .args .y) (s .args .t .now) (get .result .v) (s .pre .3) (s .pre .0) (s .pre .1) (get .ensures)))
 
-get-requires-2 : tie.Need-get-requires-2 Inv-loop μ-loop
-get-requires-2 c κs = search needs
-
-add-requires : tie.Need-add-requires Inv-loop μ-loop
-add-requires c κs =
-    let s = c .before .before .before .before .before .before .before .before .before in
-    let get = c .before .before .before .before .before .before .before .get in
-    let loop = c .before .before .before .before .loop in
-    let get2 = c .before .get2 in (
-      read-stored version1 (s .args .n) (s .args .x) (s .args .y) (s .args .t .now) (get .result .v) (s .pre .3) (s .pre .0) (s .pre .1) (get .ensures),
-      read-stored version1 (s .args .n) (s .args .y) (loop .z) (loop .t) (get2 .result .v) (loop .inv .lowered .sound) (s .pre .1) (omega arith) (get2 .ensures),
-    )
-
-lower-cell-requires : tie.Need-lower-cell-requires Inv-loop μ-loop
-lower-cell-requires c κs = search needs
-
-add-z : tie.Need-add-z Inv-loop μ-loop
-add-z c = search needs
-
-loop-less : tie.Need-loop-less Inv-loop μ-loop
-loop-less c = search needs
-
-loop-again : tie.Need-loop-again Inv-loop μ-loop
-loop-again c =
-    let s = c .before .before .before .before .before .before .before .before .before .before .before .before in
-    let get = c .before .before .before .before .before .before .before .before .before .before .get in
-    let loop = c .before .before .before .before .before .before .before .loop in
-    let get2 = c .before .before .before .before .get2 in
-    let add = c .before .before .add in
-    let lower-cell = c .before .lower-cell in
-    turns-more (cell-lowers version1 version1-coherent (s .args .n) (s .args .y) (s .args .x) (cell32 (get .result .v)) (s .pre .0)) (loop .inv) (omega arith)
-    (join-cell-is version1 (s .args .n) (s .args .y) (s .args .x) (loop .z) (cell32 (get .result .v)) (loop .t) (lower-cell .last .0)
-    (get2 .result .v) (add .result .v) (get2 .ensures) (add .ensures) (lower-cell .ensures))
-
-same-length-2 : tie.Need-same-length-2 Inv-loop μ-loop
+same-length-2 : tie.Need-same-length-2
 same-length-2 c = search needs
 
-returns-2 : tie.Need-returns-2 Inv-loop μ-loop
+returns-2 : tie.Need-returns-2
+unfolding rowBy
 returns-2 c =
-    let s = c .before .before .before .before .before .before in
-    let get = c .before .before .before .before .get in
-    let loop = c .before .loop in
-    join-row-is version1 (s .args .n) (s .args .y) (s .args .x) (s .args .t .now) (loop .t) (get .result .v) (get .ensures)
-    (turns-all (loop .inv) (omega arith))
+    let s = c .before .before .before .before .before .before .before in
+    let get = c .before .before .before .before .before .get in
+    let row-by = c .before .row-by in
+    join-row-is version1 (s .args .n) (s .args .y) (s .args .x) (s .args .t .now) (row-by .last .0) (get .result .v) (get .ensures) (row-by .ensures)
 
 pub join-row-spec : {M : Type 1} → statement M
 join-row-spec =
     tie.close
     (tie.spec
-    Inv-loop
-    μ-loop
     get-requires
     is-mark-requires
     same-length
     returns
-    loop-holds
-    get-requires-2
-    add-requires
-    lower-cell-requires
-    add-z
-    loop-less
-    loop-again
+    row-by-requires
     same-length-2
     returns-2)

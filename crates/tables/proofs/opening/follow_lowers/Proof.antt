@@ -1,0 +1,80 @@
+-- `opening::follow_lowers` meets its contract: a turn for each second link. Assumes nothing.
+use borrow.Author.Needs.{needs}
+use Prim.Native.Nat.{_-_}
+use native.Mathlib.Omega.{arith}
+use Rattle.rules.proofs.Demands.{version1-coherent}
+use Rattle.rules.specs.Plan.{version1}
+use Rattle.plan.specs.Layout.{linkAt}
+use Rattle.tables.specs.Spread.{followLower, followLowers}
+use Rattle.tables.proofs.Turns.{Turns, turns-none, turns-more, turns-all}
+use Rattle.tables.proofs.Spreads.{follow-lower-lowers}
+use Rattle.tables.proofs.Links.{few, link-read, link-points, at-both}
+use Rattle.tables.proofs.opening.follow_lowers.Statement.{statement}
+use Rattle.tables.proofs.opening.follow_lowers.Tie as tie
+
+abbrev Inv-loop : tie.InvT-loop
+Inv-loop file n m k strict t₀ i a j₀ t j = Turns version1 n k (λ j. followLower version1 n strict (linkAt file m i) (linkAt file m j)) j t₀ t
+
+abbrev μ-loop : tie.MeasureT-loop
+μ-loop file n m k strict t₀ i a j₀ t j = k - j
+
+link-at-requires : tie.Need-link-at-requires Inv-loop μ-loop
+link-at-requires c κs = search needs
+
+loop-holds : tie.Need-loop-holds Inv-loop μ-loop
+loop-holds c =
+    let s = c .before .before in
+    turns-none (s .pre .3)
+
+link-at-requires-2 : tie.Need-link-at-requires-2 Inv-loop μ-loop
+link-at-requires-2 c κs = search needs
+
+follow-lower-requires : tie.Need-follow-lower-requires Inv-loop μ-loop
+follow-lower-requires c κs =
+    let s = c .before .before .before .before .before .before in
+    let link-at = c .before .before .before .before .link-at in
+    let loop = c .before .before .before .loop in
+    let link-at2 = c .before .link-at2 in
+    (few (s .pre .1), s .pre .2, link-read (s .pre .1) (s .args .i) (s .pre .0) (link-at .ensures), link-read (s .pre .1) (loop .j) (omega arith) (link-at2 .ensures), loop .inv .lowered .sound)
+
+add-j : tie.Need-add-j Inv-loop μ-loop
+add-j c = search needs
+
+loop-less : tie.Need-loop-less Inv-loop μ-loop
+loop-less c = search needs
+
+loop-again : tie.Need-loop-again Inv-loop μ-loop
+loop-again c =
+    let s = c .before .before .before .before .before .before .before .before in
+    let link-at = c .before .before .before .before .before .before .link-at in
+    let loop = c .before .before .before .before .before .loop in
+    let link-at2 = c .before .before .before .link-at2 in
+    let follow-lower = c .before .follow-lower in
+    turns-more
+    (follow-lower-lowers version1 version1-coherent (s .args .n) (linkAt (s .args .file .now) (s .args .m)) (s .args .k) (link-points (s .pre .1)) (s .args .strict .now) (s .args .i) (s .pre .0)) (loop .inv) (omega arith)
+    (at-both (λ a b. followLower version1 (s .args .n) (s .args .strict .now) a b (loop .t)) (link-at .ensures) (link-at2 .ensures) (follow-lower .ensures))
+
+same-length : tie.Need-same-length Inv-loop μ-loop
+same-length c = search needs
+
+returns : tie.Need-returns Inv-loop μ-loop
+unfolding followLowers
+returns c =
+    let loop = c .before .loop in
+    turns-all (loop .inv) (omega arith)
+
+pub follow-lowers-spec : {M : Type 1} → statement M
+follow-lowers-spec =
+    tie.close
+    (tie.spec
+    Inv-loop
+    μ-loop
+    link-at-requires
+    loop-holds
+    link-at-requires-2
+    follow-lower-requires
+    add-j
+    loop-less
+    loop-again
+    same-length
+    returns)

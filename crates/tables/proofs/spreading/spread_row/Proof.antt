@@ -1,0 +1,79 @@
+-- `spreading::spread_row` meets its contract: a row that the edge shortens is taken by the way over it, and any other stays. Assumes nothing.
+use borrow.Author.Needs.{needs}
+use Rattle.rules.specs.Plan.{version1}
+use Rattle.cell.specs.Steps.{cell32}
+use Rattle.tables.proofs.Turns.{read-stored}
+use Rattle.tables.proofs.Edges.{way-summed, spread-row-is, spread-row-stays}
+use Rattle.tables.proofs.spreading.spread_row.Statement.{statement}
+use Rattle.tables.proofs.spreading.spread_row.Tie as tie
+
+get-requires : tie.Need-get-requires
+get-requires c κs = search needs
+
+add-requires : tie.Need-add-requires
+add-requires c κs =
+    let s = c .before .before in
+    let get = c .get in
+    (read-stored version1 (s .args .n) (s .args .x) (s .args .a) (s .args .t .now) (get .result .v) (s .pre .4) (s .pre .0) (s .pre .1) (get .ensures), s .pre .5)
+
+get-requires-2 : tie.Need-get-requires-2
+get-requires-2 c κs = search needs
+
+below-requires : tie.Need-below-requires
+below-requires c κs = search needs
+
+row-by-requires : tie.Need-row-by-requires
+row-by-requires c κs =
+    let s = c .before .before .before .before .before .before .before .before in
+    let get = c .before .before .before .before .before .before .get in
+    let add = c .before .before .before .before .before .add in (
+      s .pre .0,
+      s .pre .2,
+      s .pre .3,
+      s .pre .4,
+      way-summed (version1 .reach) (cell32 (get .result .v)) (cell32 (s .args .w .v)) (add .ensures)
+          (read-stored version1 (s .args .n) (s .args .x) (s .args .a) (s .args .t .now) (get .result .v) (s .pre .4) (s .pre .0) (s .pre .1) (get .ensures)) (s .pre .5),
+    )
+
+same-length : tie.Need-same-length
+same-length c = search needs
+
+returns : tie.Need-returns
+returns c =
+    let s = c .before .before .before .before .before .before .before .before .before .before in
+    let get = c .before .before .before .before .before .before .before .before .get in
+    let add = c .before .before .before .before .before .before .before .add in
+    let get2 = c .before .before .before .before .before .get2 in
+    let below = c .before .before .before .before .below in
+    let if1 = c .before .before .before .if1 in
+    let row-by = c .before .row-by in
+    spread-row-is version1 (s .args .n) (s .args .a) (s .args .b) (s .args .t .now) (cell32 (s .args .w .v)) (s .args .x) (row-by .last .0) (get .result .v) (add .result .v) (get2 .result .v)
+    (get .ensures) (add .ensures) (get2 .ensures) (below .ensures) (if1 .taken) (row-by .ensures)
+
+same-length-2 : tie.Need-same-length-2
+same-length-2 c = search needs
+
+returns-2 : tie.Need-returns-2
+returns-2 c =
+    let s = c .before .before .before .before .before .before .before in
+    let get = c .before .before .before .before .before .get in
+    let add = c .before .before .before .before .add in
+    let get2 = c .before .before .get2 in
+    let below = c .before .below in
+    let if1 = c .if1 in
+    spread-row-stays version1 (s .args .n) (s .args .a) (s .args .b) (s .args .t .now) (cell32 (s .args .w .v)) (s .args .x) (get .result .v) (add .result .v) (get2 .result .v)
+    (get .ensures) (add .ensures) (get2 .ensures) (below .ensures) (if1 .left)
+
+pub spread-row-spec : {M : Type 1} → statement M
+spread-row-spec =
+    tie.close
+    (tie.spec
+    get-requires
+    add-requires
+    get-requires-2
+    below-requires
+    row-by-requires
+    same-length
+    returns
+    same-length-2
+    returns-2)

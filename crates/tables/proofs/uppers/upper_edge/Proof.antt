@@ -1,0 +1,46 @@
+-- `uppers::upper_edge` meets its contract: an edge of what Upper yields. Assumes nothing.
+use borrow.Author.Needs.{needs}
+use mathlib.Core.Path.{refl}
+use native.Mathlib.Omega.{arith}
+use Rattle.rules.specs.Plan.{version1}
+use Rattle.plan.specs.Values.{linkOf}
+use Rattle.tables.proofs.Turns.{read-stored}
+use Rattle.tables.proofs.Links.{upper-edge-is}
+use Rattle.tables.proofs.uppers.upper_edge.Statement.{statement}
+use Rattle.tables.proofs.uppers.upper_edge.Tie as tie
+
+cast-by : tie.Need-cast-by
+cast-by c = search needs
+
+cast-to : tie.Need-cast-to
+cast-to c = search needs
+
+get-requires : tie.Need-get-requires
+get-requires c κs = search needs
+
+upper-requires : tie.Need-upper-requires
+upper-requires c κs =
+    let s = c .before .before .before .before .before in
+    let get = c .before .get in
+    (read-stored version1 (s .args .n) (s .args .x) (s .args .a .con) (s .args .t .now) (get .result .v) (s .pre .3) (s .pre .0) (s .pre .2 .con) (get .ensures), omega (arith, s .pre .2 .order, s .pre .2 .most), s .pre .2 .most)
+
+new-edge-requires : tie.Need-new-edge-requires
+new-edge-requires c κs = search needs
+
+same-length : tie.Need-same-length
+same-length c = search needs
+
+returns : tie.Need-returns
+returns c =
+    let s = c .before .before .before .before .before .before .before .before in
+    let get = c .before .before .before .before .get in
+    let upper = c .before .before .upper in
+    let new-edge = c .before .new-edge in
+    let a = linkOf (s .args .a) in
+    upper-edge-is version1 (s .args .n) (s .args .x) a (s .args .t .now) (new-edge .last .0) (get .result .v) (upper .result .v) (get .ensures)
+    (upper .ensures a refl refl) (new-edge .ensures)
+
+pub upper-edge-spec : {M : Type 1} → statement M
+upper-edge-spec =
+    tie.close
+    (tie.spec cast-by cast-to get-requires upper-requires new-edge-requires same-length returns)

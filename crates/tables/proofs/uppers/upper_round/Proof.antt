@@ -1,0 +1,73 @@
+-- `uppers::upper_round` meets its contract: a turn for each link. Assumes nothing.
+use borrow.Author.Needs.{needs}
+use Prim.Native.Nat.{_-_}
+use native.Mathlib.Omega.{arith}
+use Rattle.rules.proofs.Demands.{version1-coherent}
+use Rattle.rules.specs.Plan.{version1}
+use Rattle.plan.specs.Layout.{linkAt}
+use Rattle.tables.specs.Spread.{upperEdges, upperRound}
+use Rattle.tables.proofs.Turns.{Turns, turns-none, turns-more, turns-all}
+use Rattle.tables.proofs.Spreads.{upper-edges-lowers}
+use Rattle.tables.proofs.Links.{few, link-read, link-points, at-read}
+use Rattle.tables.proofs.uppers.upper_round.Statement.{statement}
+use Rattle.tables.proofs.uppers.upper_round.Tie as tie
+
+abbrev Inv-loop : tie.InvT-loop
+Inv-loop file n m k t₀ i₀ t i = Turns version1 n k (λ i. upperEdges version1 n (linkAt file m i)) i t₀ t
+
+abbrev μ-loop : tie.MeasureT-loop
+μ-loop file n m k t₀ i₀ t i = k - i
+
+loop-holds : tie.Need-loop-holds Inv-loop μ-loop
+loop-holds c =
+    let s = c .before in
+    turns-none (s .pre .1)
+
+link-at-requires : tie.Need-link-at-requires Inv-loop μ-loop
+link-at-requires c κs = search needs
+
+upper-edges-requires : tie.Need-upper-edges-requires Inv-loop μ-loop
+upper-edges-requires c κs =
+    let s = c .before .before .before .before .before in
+    let loop = c .before .before .before .loop in
+    let link-at = c .before .link-at in
+    (few (s .pre .0), link-read (s .pre .0) (loop .i) (omega arith) (link-at .ensures), loop .inv .lowered .sound)
+
+add-i : tie.Need-add-i Inv-loop μ-loop
+add-i c = search needs
+
+loop-less : tie.Need-loop-less Inv-loop μ-loop
+loop-less c = search needs
+
+loop-again : tie.Need-loop-again Inv-loop μ-loop
+loop-again c =
+    let s = c .before .before .before .before .before .before .before in
+    let loop = c .before .before .before .before .before .loop in
+    let link-at = c .before .before .before .link-at in
+    let upper-edges = c .before .upper-edges in
+    turns-more (upper-edges-lowers version1 version1-coherent (s .args .n) (linkAt (s .args .file .now) (s .args .m)) (s .args .k) (link-points (s .pre .0))) (loop .inv) (omega arith)
+    (at-read (λ a. upperEdges version1 (s .args .n) a (loop .t)) (link-at .ensures) (upper-edges .ensures))
+
+same-length : tie.Need-same-length Inv-loop μ-loop
+same-length c = search needs
+
+returns : tie.Need-returns Inv-loop μ-loop
+unfolding upperRound
+returns c =
+    let loop = c .before .loop in
+    turns-all (loop .inv) (omega arith)
+
+pub upper-round-spec : {M : Type 1} → statement M
+upper-round-spec =
+    tie.close
+    (tie.spec
+    Inv-loop
+    μ-loop
+    loop-holds
+    link-at-requires
+    upper-edges-requires
+    add-i
+    loop-less
+    loop-again
+    same-length
+    returns)
