@@ -16,7 +16,7 @@ use Rattle.rules.proofs.Demands.{version1-coherent}
 use Rattle.plan.specs.Layout.{limitAt, linkAt, planOf}
 use Rattle.tables.specs.Table.{Sound, Ready}
 use Rattle.tables.specs.Sweep.{joinAll, firstStrict, heights}
-use Rattle.tables.specs.Spread.{Copied, caseEdges, strictRound, openRound}
+use Rattle.tables.specs.Spread.{Copied, Opened, caseEdges, strictRound, openRound}
 use Rattle.tables.specs.Fair.{Fair, Unfair}
 use Rattle.tables.specs.Ends.{Refused}
 use Rattle.tables.proofs.Lowering.{Lowered}
@@ -85,15 +85,13 @@ module _ {s : List ℕ} {n m k : ℕ} (r : Ready s n m k) where
     pub first-sound : Sound version1 n u
     first-sound = subst (λ (c : ℕ). Sound version1 c u) same-points (carried .walks .sound)
 
-    -- so is its copy
-    pub copy-sound : {b v : List ℤ} → n * n ≤ length b → Copied (n * n) u b v → Sound version1 n v
-    copy-sound hb c = copied-sound version1 n c hb first-sound
-
     -- with the lower-case edges taken, both stand
-    pub standing-first : (b : List ℤ) {v w : List ℤ} → n * n ≤ length b → Copied (n * n) u b v → w ≡ caseEdges version1 n (linkAt s m) k v
-        → Standing s m k a b u w
-    standing-first b {v} {w} hb c ew =
+    pub standing-first : (b : List ℤ) {w : List ℤ} → n * n ≤ length b → Opened version1 n (linkAt s m) k u b w → Standing s m k a b u w
+    standing-first b {w} hb o =
         let p : Plan = planOf s in
+        let v : List ℤ = o .copy in
+        let c : Copied (n * n) u b v = o .copied in
+        let ew : w ≡ caseEdges version1 n (linkAt s m) k v = o .taken in
         let c′ : Copied (p .points * p .points) u b v = subst (λ (i : ℕ). Copied (i * i) u b v) (sym same-points) c in
         let hb′ : p .points * p .points ≤ length b = subst (λ (i : ℕ). i * i ≤ length b) (sym same-points) hb in
         let is : caseEdges version1 (p .points) (linkAt s m) k v ≡ w = ap (λ (i : ℕ). caseEdges version1 i (linkAt s m) k v) same-points ∙ sym ew in

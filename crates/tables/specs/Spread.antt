@@ -4,7 +4,7 @@
 use mathlib.Core.Path.{_≡_}
 use mathlib.Core.Bool.{cond}
 use mathlib.Core.List.{List}
-use Prim.Native.Nat.{ℕ, zero, _≤_, _<_}
+use Prim.Native.Nat.{ℕ, zero, _*_, _≤_, _<_}
 use lib.Dec.{eqb}
 use lib.ListN.{length, getD}
 use lib.IntN.{ℤ, pos}
@@ -83,6 +83,12 @@ caseEdge r n k t = newEdge r n (k .act) (k .con) (num (pos (k .short))) t
 -- of each of the links
 unfoldable pub caseEdges : Ranges → ℕ → (ℕ → Link) → ℕ → List ℤ → List ℤ
 caseEdges r n link count t = iter (λ i. caseEdge r n (link i)) count t
+
+-- the open table to start with: the strict one with every lower-case edge taken
+pub record Opened (r : Ranges) (n : ℕ) (link : ℕ → Link) (count : ℕ) (strict before after : List ℤ) : Type 0 where
+  pub copy : List ℤ
+  pub copied : Copied (n * n) strict before copy
+  pub taken : after ≡ caseEdges r n link count copy
 
 -- the strict cell to which Lower leads, for the link k and the link j
 unfoldable pub followLower : Ranges → ℕ → List ℤ → Link → Link → List ℤ → List ℤ

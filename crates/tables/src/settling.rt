@@ -8,8 +8,8 @@ ghost use Rattle.rules.specs.Plan.{version1};
 ghost use Rattle.rules.specs.Calls.{Written};
 ghost use Rattle.plan.specs.Layout.{limitAt, linkAt, planOf};
 ghost use Rattle.tables.specs.Table.{Sound, Ready};
-ghost use Rattle.tables.specs.Sweep.{joinAll, firstStrict};
-ghost use Rattle.tables.specs.Spread.{strictRound};
+ghost use Rattle.tables.specs.Sweep.{joinAll, firstStrict, heights};
+ghost use Rattle.tables.specs.Spread.{Opened, strictRound};
 ghost use Rattle.tables.specs.Fair.{Fair, Unfair, Looked};
 ghost use Rattle.tables.specs.Ends.{Refused};
 use crate::joins::join_all;
@@ -31,6 +31,15 @@ fn joined_strict(file: &[u8], n: usize, m: u32, k: u32, t: &mut [i32])
     join_all(t, n);
 }
 
+// The open table to start with: the strict one with every lower-case edge taken.
+fn opened(file: &[u8], n: usize, m: u32, k: u32, strict: &[i32], t: &mut [i32])
+    requires { ⌜ Ready (now file) n m k × Sound version1 n (now strict) × (n * n ≤ length (now t)) ⌝ }
+    ensures { λ r. ⌜ Opened version1 n (linkAt (now (file .entry)) m) k (now (strict .entry)) (now (t .entry)) (now (t .exit)) ⌝ }
+{
+    copy_all(strict, t, n * n);
+    case_edges(file, n, m, k, t);
+}
+
 // A round of the strict table: Lower, then Upper.
 fn strict_round(file: &[u8], n: usize, m: u32, k: u32, t: &mut [i32])
     requires { ⌜ Ready (now file) n m k × Sound version1 n (now t) ⌝ }
@@ -38,6 +47,14 @@ fn strict_round(file: &[u8], n: usize, m: u32, k: u32, t: &mut [i32])
 {
     lower_round(file, n, m, k, t);
     upper_round(file, n, m, k, t);
+}
+
+// How far the strict table can still fall.
+fn strict_height(t: &[i32], n: usize) -> u64
+    requires { ⌜ (n ≤ 64) × Sound version1 n (now t) ⌝ }
+    ensures { λ r. ⌜ r ≡ heights version1 (n * n) (now (t .entry)) ⌝ }
+{
+    height_all(t, n * n)
 }
 
 // Whether nothing in both tables speaks against the plan.
@@ -57,15 +74,14 @@ pub fn settle(file: &[u8], n: usize, m: u32, k: u32, strict: &mut [i32], open: &
     ensures { λ r. ⌜ Looked r (Written version1 (planOf (now (file .entry))) (now (strict .entry)) (now («open» .entry)) (now (strict .exit)) (now («open» .exit))) (Refused (planOf (now (file .entry))) (now (strict .entry)) (now («open» .entry)) (now (strict .exit)) (now («open» .exit))) ⌝ }
 {
     joined_strict(file, n, m, k, strict);
-    copy_all(strict, open, n * n);
-    case_edges(file, n, m, k, open);
-    let mut last = height_all(strict, n * n);
+    opened(file, n, m, k, strict, open);
+    let mut last = strict_height(strict, n);
     loop {
         if !both_fair(strict, open, n) {
             return false;
         }
         strict_round(file, n, m, k, strict);
-        let next = height_all(strict, n * n);
+        let next = strict_height(strict, n);
         if next == last {
             return true;
         }
