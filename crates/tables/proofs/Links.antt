@@ -1,4 +1,5 @@
--- Laws that the walks through the links cite: what Ready gives of a link read, one Lower, one Upper. Over any ranges. Assumes nothing.
+-- Laws that the walks through the links cite: what Ready gives of a link read, one Lower and one Upper, as a cell and as an edge, and an edge that the open
+-- table follows. Over any ranges. Assumes nothing.
 use mathlib.Core.Path.{_≡_, ap, _∙_}
 use mathlib.Core.List.{List}
 use Prim.Native.Nat.{ℕ, zero, _+_, _*_, _≤_, _<_}

@@ -1,4 +1,4 @@
--- What each part of a sweep and of the first tables leaves is again a table that a sweep stores: stated of the list that the code left, at version 1's
+-- What each part of a round and of the first tables leaves is again a table that a sweep stores: stated of the list that the code left, at version 1's
 -- ranges. Assumes nothing.
 use mathlib.Core.Path.{_≡_, refl}
 use mathlib.Core.List.{List}

@@ -1,4 +1,4 @@
--- Laws that the walks through the first tables and the open table cite: the mark written cell by cell, and the numbers of given edges as cells.
+-- Laws that the walks through the first tables and the open table cite: the mark written cell by cell, cells copied, and the numbers of given edges as cells.
 -- At version 1's ranges, since they speak of what the code's 32-bit cells are. Assumes nothing.
 use mathlib.Core.Path.{_≡_, refl, sym, ap, subst, _∙_}
 use mathlib.Core.Logic.{⊎-elim}

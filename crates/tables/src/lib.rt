@@ -1,5 +1,5 @@
-// Two lent tables: the sweep that lowers them to the least totals. What each function computes is said by the functions of lists in specs/Sweep.antt.
-// Here one cell: read, written, and lowered.
+// Two lent tables, lowered to the least totals: the given edges joined, then each new edge spread. What each function computes is said by the functions of
+// lists in specs/Sweep.antt and specs/Spread.antt. Here one cell: read, written, and lowered.
 mod joins;
 mod looks;
 mod lowers;

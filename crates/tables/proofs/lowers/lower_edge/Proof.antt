@@ -35,7 +35,7 @@ lower-requires : tie.Need-lower-requires
 lower-requires c κs =
     let s = c .before .before .before .before .before .before .before .before .before .before in
     let get = c .before .before .get in
-    (read-stored version1 (s .args .n) (s .args .a .con) (s .args .b .con) (s .args .t .now) (get .result .v) (s .pre .3) (s .pre .1 .con) (s .pre .2 .con) (get .ensures), omega (arith, s .pre .1 .order, s .pre .1 .most), omega (arith, s .pre .2 .most))
+    (read-stored version1 (s .args .n) _ _ (s .args .t .now) (get .result .v) (s .pre .3) (search needs) (search needs) (get .ensures), omega (arith, s .pre .1 .order, s .pre .1 .most), omega (arith, s .pre .2 .most))
 
 new-edge-requires : tie.Need-new-edge-requires
 new-edge-requires c κs = search needs

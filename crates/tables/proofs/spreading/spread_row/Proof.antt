@@ -14,7 +14,7 @@ add-requires : tie.Need-add-requires
 add-requires c κs =
     let s = c .before .before in
     let get = c .get in
-    (read-stored version1 (s .args .n) (s .args .x) (s .args .a) (s .args .t .now) (get .result .v) (s .pre .4) (s .pre .0) (s .pre .1) (get .ensures), s .pre .5)
+    (read-stored version1 (s .args .n) (s .args .x) _ (s .args .t .now) (get .result .v) (s .pre .4) (s .pre .0) (search needs) (get .ensures), s .pre .5)
 
 get-requires-2 : tie.Need-get-requires-2
 get-requires-2 c κs = search needs
@@ -28,11 +28,11 @@ row-by-requires c κs =
     let get = c .before .before .before .before .before .before .get in
     let add = c .before .before .before .before .before .add in (
       s .pre .0,
-      s .pre .2,
+      search needs,
       s .pre .3,
       s .pre .4,
       way-summed (version1 .reach) (cell32 (get .result .v)) (cell32 (s .args .w .v)) (add .ensures)
-          (read-stored version1 (s .args .n) (s .args .x) (s .args .a) (s .args .t .now) (get .result .v) (s .pre .4) (s .pre .0) (s .pre .1) (get .ensures)) (s .pre .5),
+          (read-stored version1 (s .args .n) (s .args .x) _ (s .args .t .now) (get .result .v) (s .pre .4) (s .pre .0) (search needs) (get .ensures)) (s .pre .5),
     )
 
 same-length : tie.Need-same-length

@@ -16,7 +16,7 @@ add-requires : tie.Need-add-requires
 add-requires c κs =
     let s = c .before .before in
     let get = c .get in
-    (s .pre .4, read-stored version1 (s .args .n) (s .args .b) (s .args .a) (s .args .t .now) (get .result .v) (s .pre .3) (s .pre .1) (s .pre .0) (get .ensures))
+    (s .pre .4, read-stored version1 (s .args .n) _ _ (s .args .t .now) (get .result .v) (s .pre .3) (search needs) (search needs) (get .ensures))
 
 of-requires : tie.Need-of-requires
 of-requires c κs = search needs
