@@ -22,7 +22,7 @@ upper-requires : tie.Need-upper-requires
 upper-requires c κs =
     let s = c .before .before .before .before .before in
     let get = c .before .get in (
-      read-stored version1 (s .args .n) (s .args .x) (s .args .a .con) (s .args .t .now) (get .result .v) (s .pre .3) (s .pre .0) (s .pre .2 .con) (get .ensures),
+      read-stored version1 (s .args .n) (s .args .x) _ (s .args .t .now) (get .result .v) (s .pre .3) (s .pre .0) (search needs) (get .ensures),
       omega (arith, s .pre .2 .order, s .pre .2 .most),
       s .pre .2 .most,
     )
