@@ -119,7 +119,7 @@ def answer(data, n, limits, links, strict, weak):
     return (0, 0) if closed(n, limits, links, *read) else (12, 0)
 
 
-# ---- the plans to try: a to k, with f's additions as limits of the file
+# ---- the plans to try: a to k, here with f's additions as limits of the file
 
 E_LINK = [(0, 2, 5, 1)]
 PLANS = [
@@ -130,9 +130,9 @@ PLANS = [
     ("c with -11", 2, [(0, 1, 10), (1, 0, -11)], [], None),
     ("d", 3, [(0, 2, 12), (1, 0, -4), (1, 2, 6), (2, 1, -3)], [], ["0 9 12; -4 0 6; -7 -3 0"]),
     ("e", 2, [], E_LINK, ["0 5; -2 0", "0 2; -2 0"]),
-    ("f: 0>1 5", 2, [(0, 1, 5)], E_LINK, ["0 5; -2 0", "0 2; -2 0"]),
-    ("f: 0>1 4", 2, [(0, 1, 4)], E_LINK, None),
-    ("f: 1>0 -3", 2, [(1, 0, -3)], E_LINK, None),
+    ("f in one file: 0>1 5", 2, [(0, 1, 5)], E_LINK, ["0 5; -2 0", "0 2; -2 0"]),
+    ("f in one file: 0>1 4", 2, [(0, 1, 4)], E_LINK, None),
+    ("f in one file: 1>0 -3", 2, [(1, 0, -3)], E_LINK, None),
     ("g", 3, [(2, 1, 0), (1, 2, 1)], E_LINK, ["0 5 6; -2 0 1; -2 0 0", "0 2 3; -2 0 1; -2 0 0"]),
     ("h", 3, [(1, 2, -1), (2, 1, 4)], E_LINK, ["0 5 4; -2 0 -1; -1 4 0", "0 2 1; -2 0 -1; -1 1 0"]),
     ("i", 3, [(1, 2, -1), (2, 1, 3)], E_LINK, None),

@@ -2,10 +2,8 @@
 use mathlib.Core.List.{List, [], _∷_}
 use Prim.Native.Nat.{ℕ}
 use lib.IntN.{ℤ, pos, negℤ}
-use Rattle.rules.specs.Plan.{Limit, Link, Plan, version1}
-use Rattle.rules.specs.Cells.{tableOf}
-use Rattle.rules.specs.Additions.{withCells}
-use Rattle.cases.specs.Case.{Verdict, refused, controllable, settled, Case}
+use Rattle.rules.specs.Plan.{Limit, Link, Plan}
+use Rattle.cases.specs.Case.{Verdict, refused, controllable, settled, takes, declines, Case}
 
 -- the limit X>Y w
 abbrev pub limit : ℕ → ℕ → ℤ → Limit
@@ -25,12 +23,15 @@ minus n = negℤ (pos n)
 abbrev pub say : Plan → Verdict → Case
 say p v = record { plan = p; verdict = v }
 
--- the plan of e, and its strict table
+-- the plan of e, and its tables
 abbrev pub planE : Plan
 planE = plan 2 (link 0 2 5 1 ∷ []) []
 
 abbrev pub strictE : List ℤ
 strictE = pos 0 ∷ pos 5 ∷ minus 2 ∷ pos 0 ∷ []
+
+abbrev pub openE : List ℤ
+openE = pos 0 ∷ pos 2 ∷ minus 2 ∷ pos 0 ∷ []
 
 -- "a. n 1, nothing else: both tables 0." and so on
 abbrev pub paper : List Case
@@ -49,11 +50,11 @@ paper =
     (settled (pos 0 ∷ pos 9 ∷ pos 12 ∷ minus 4 ∷ pos 0 ∷ pos 6 ∷ minus 7 ∷ minus 3 ∷ pos 0 ∷ [])
     (pos 0 ∷ pos 9 ∷ pos 12 ∷ minus 4 ∷ pos 0 ∷ pos 6 ∷ minus 7 ∷ minus 3 ∷ pos 0 ∷ []) (pos 0 ∷ pos 4 ∷ pos 7 ∷ []))
     -- e
-    ∷ say planE (settled strictE (pos 0 ∷ pos 2 ∷ minus 2 ∷ pos 0 ∷ []) [])
-    -- f, as Add's plans
-    ∷ say (withCells planE (tableOf version1 2 strictE) (limit 0 1 (pos 5))) (settled strictE (pos 0 ∷ pos 2 ∷ minus 2 ∷ pos 0 ∷ []) [])
-    ∷ say (withCells planE (tableOf version1 2 strictE) (limit 0 1 (pos 4))) refused
-    ∷ say (withCells planE (tableOf version1 2 strictE) (limit 1 0 (minus 3))) refused
+    ∷ say planE (settled strictE openE [])
+    -- f: "Add 0>1 5 to e: taken, nothing changes. Add 0>1 4: 11. Add 1>0 -3: 11."
+    ∷ say planE (takes (limit 0 1 (pos 5)) strictE openE strictE openE)
+    ∷ say planE (declines (limit 0 1 (pos 4)) strictE openE)
+    ∷ say planE (declines (limit 1 0 (minus 3)) strictE openE)
     -- g
     ∷ say (plan 3 (link 0 2 5 1 ∷ []) (limit 2 1 (pos 0) ∷ limit 1 2 (pos 1) ∷ []))
     (settled (pos 0 ∷ pos 5 ∷ pos 6 ∷ minus 2 ∷ pos 0 ∷ pos 1 ∷ minus 2 ∷ pos 0 ∷ pos 0 ∷ [])

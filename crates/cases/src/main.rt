@@ -1,6 +1,8 @@
-// The plans of document 01, through the calls. Reads plan files from standard input and prints of each: its name; Judge's code and place and, with 0,
-// both tables; Check's code and place for the tables that Judge left; Earliest's code and place and, with 0, the times. An entry is eight bytes,
-// the lengths of a name and of a file, then both; the repository's tools/paper_cases.py makes the input and what is to be printed.
+// The plans of document 01, through the calls. Reads entries from standard input and prints of each: its name; Judge's code and place and, with 0,
+// both tables; Check's code and place for the tables that Judge left; of each limit that is then added to those tables, one after the other, the
+// limit, Add's code and place, both tables after it, and what it left in the scratch; Earliest's code and place and, with 0, the times. An entry is
+// twelve bytes, the lengths of a name and of a file and the number of limits to add, then the name, the file and the limits, each as a file has
+// it; the repository's tools/paper_cases.py makes the input and what is to be printed.
 ghost use mathlib.Core.Path.{_≡_};
 ghost use Prim.Native.Nat.{_≤_, _<_};
 ghost use lib.IntN.{natAbs};
@@ -8,6 +10,7 @@ ghost use lib.ListN.{length};
 use answers::accepted;
 use answers::code;
 use answers::place;
+use fields::signed_at;
 use fields::unsigned_at;
 use libc::STDIN_FILENO;
 use libc::STDOUT_FILENO;
@@ -68,6 +71,12 @@ fn print_table<'a>(word: &[u8], strict: &'a [i32], open: &'a [i32], n: usize, wh
     io::write_all(STDOUT_FILENO, b"\n");
 }
 
+// Prints both tables, of n points.
+fn print_tables<'a>(strict: &'a [i32], open: &'a [i32], n: usize) {
+    print_table(b"strict", strict, open, n, Side::Strict);
+    print_table(b"open", strict, open, n, Side::Open);
+}
+
 // The number of points that a file names; 0 where it names more than there may be.
 fn points(file: &[u8]) -> usize
     ensures { λ r. ⌜ r ≤ 64 ⌝ }
@@ -79,18 +88,77 @@ fn points(file: &[u8]) -> usize
     n
 }
 
-// Judge of a file, and Check of the file with the tables that Judge left.
-fn judged(file: &[u8]) {
+// How many cells from the first one on hold a number.
+fn same(cells: &[i64], v: i64) -> usize
+    ensures { λ r. ⌜ r ≤ length (now (cells .entry)) ⌝ }
+{
+    let mut i = 0;
+    while i < cells.len() {
+        if cells[i] != v {
+            return i;
+        }
+        i += 1;
+    }
+    i
+}
+
+// Prints of a scratch that held 7 in every cell how many cells from the first one on are 0 now, and how many behind those still hold 7.
+fn print_scratch(scratch: &[i64]) {
+    let zeros = same(scratch, 0);
+    let kept = same(&scratch[zeros..], 7);
+    io::write_all(STDOUT_FILENO, b"scratch ");
+    io::print_decimal(STDOUT_FILENO, zeros as u64);
+    io::write_all(STDOUT_FILENO, b" ");
+    io::print_decimal(STDOUT_FILENO, kept as u64);
+    io::write_all(STDOUT_FILENO, b"\n");
+}
+
+// Prints the limit X>Y w, on a line.
+fn print_limit(x: u32, y: u32, w: i32) {
+    io::write_all(STDOUT_FILENO, b"limit ");
+    io::print_decimal(STDOUT_FILENO, x as u64);
+    io::write_all(STDOUT_FILENO, b">");
+    io::print_decimal(STDOUT_FILENO, y as u64);
+    print_cell(w);
+    io::write_all(STDOUT_FILENO, b"\n");
+}
+
+// Add of a limit, with a scratch that is not clean.
+fn added(file: &[u8], x: u32, y: u32, w: i32, strict: &mut [i32], open: &mut [i32]) {
+    let mut scratch = [7i64; 8192];
+    print_limit(x, y, w);
+    print(b"add", post::add(file, x, y, w, strict, open, &mut scratch));
+    print_tables(strict, open, points(file));
+    print_scratch(&scratch);
+}
+
+// Add of limits that lie one behind the other, in that order.
+fn added_all(file: &[u8], limits: &[u8], strict: &mut [i32], open: &mut [i32]) {
+    let mut at = 0;
+    while 12 <= limits.len() - at {
+        added(
+            file,
+            unsigned_at(limits, at),
+            unsigned_at(limits, at + 4),
+            signed_at(limits, at + 8),
+            strict,
+            open,
+        );
+        at += 12;
+    }
+}
+
+// Judge of a file, Check of the file with the tables that Judge left, and limits added to them.
+fn judged(file: &[u8], limits: &[u8]) {
     let mut strict = [0i32; 4096];
     let mut open = [0i32; 4096];
     let a = post::judge(file, &mut strict, &mut open);
     print(b"judge", a);
     if accepted(a) {
-        let n = points(file);
-        print_table(b"strict", &strict, &open, n, Side::Strict);
-        print_table(b"open", &strict, &open, n, Side::Open);
+        print_tables(&strict, &open, points(file));
     }
     print(b"check", post::check(file, &strict, &open));
+    added_all(file, limits, &mut strict, &mut open);
 }
 
 // Earliest of a file.
@@ -114,21 +182,23 @@ fn next(all: &[u8], at: usize) -> usize
     ensures { λ r. ⌜ (at < r) × (r ≤ length (now (all .entry))) ⌝ }
 {
     let size = all.len();
-    if size - at < 8 {
+    if size - at < 12 {
         return size;
     }
-    let start = at + 8;
+    let start = at + 12;
     let word = unsigned_at(all, at) as usize;
     let bytes = unsigned_at(all, at + 4) as usize;
-    if size - start < word + bytes {
+    let more = 12 * (unsigned_at(all, at + 8) as usize);
+    if size - start < word + bytes + more {
         return size;
     }
     let middle = start + word;
-    let end = middle + bytes;
+    let last = middle + bytes;
+    let end = last + more;
     io::write_all(STDOUT_FILENO, &all[start..middle]);
     io::write_all(STDOUT_FILENO, b"\n");
-    let file = &all[middle..end];
-    judged(file);
+    let file = &all[middle..last];
+    judged(file, &all[last..end]);
     timed(file);
     end
 }

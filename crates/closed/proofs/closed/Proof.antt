@@ -23,8 +23,7 @@ returns c =
 alone-requires-2 : tie.Need-alone-requires-2
 alone-requires-2 c κs =
     let a = c .before .before .before .args in
-    let p = c .before .before .before .pre in
-    (p .2, few (a .file .now) (a .n) (a .m) (a .k) (p .0))
+    (search needs, few (a .file .now) (a .n) (a .m) (a .k) (c .before .before .before .pre .0))
 
 returns-2 : tie.Need-returns-2
 returns-2 c =

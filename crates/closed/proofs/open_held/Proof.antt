@@ -1,4 +1,5 @@
 -- `open_held` meets its contract: two tests, one after the other. Assumes nothing.
+use borrow.Author.Needs.{needs}
 use Rattle.tables.proofs.Ready.{link-range}
 use Rattle.closed.proofs.Exceeds.{refuted, given-by, decides-all}
 use Rattle.closed.proofs.Whole.{few}
@@ -8,8 +9,7 @@ use Rattle.closed.proofs.open_held.Tie as tie
 all-under-requires : tie.Need-all-under-requires
 all-under-requires c κs =
     let a = c .before .args in
-    let p = c .before .pre in
-    (p .1, p .2, few (a .file .now) (a .n) (a .m) (a .k) (p .0))
+    (search needs, search needs, few (a .file .now) (a .n) (a .m) (a .k) (c .before .pre .0))
 
 returns : tie.Need-returns
 returns c = refuted (c .before .all-under .ensures) (c .if1 .taken) (λ h. h .under)
