@@ -1,6 +1,6 @@
 -- Laws that the walks through the first tables and the open table cite: the mark written cell by cell, and the numbers of given edges as cells.
 -- At version 1's ranges, since they speak of what the code's 32-bit cells are. Assumes nothing.
-use mathlib.Core.Path.{_≡_, refl, ap, _∙_}
+use mathlib.Core.Path.{_≡_, refl, sym, ap, _∙_}
 use mathlib.Core.List.{List}
 use Prim.Native.Nat.{ℕ, zero, _+_, _*_, _≤_, _<_}
 use native.Mathlib.Numerals.{add-one}
@@ -14,7 +14,7 @@ use Rattle.whole.proofs.Order.{ints, neg}
 use Rattle.whole.proofs.Bits.{signed, back}
 use Rattle.rules.specs.Plan.{Limit, Link, Ranges, version1, LimitInRange}
 use Rattle.rules.specs.Cells.{mark, num, cellOf}
-use Rattle.plan.specs.Layout.{limitAt}
+use Rattle.plan.specs.Layout.{headOf, limitAt, linkAt}
 use Rattle.cell.specs.Steps.{cell32}
 use Rattle.cell.proofs.Laws.{room32, in-range, weight-number, negation-fits}
 use Rattle.tables.specs.Table.{Sound, Ready}
@@ -98,3 +98,7 @@ unfolding linkEdges
 edges-are r n a t u v long short el es eu ev =
     let first : u ≡ lowerCell r n (a .act) (a .con) (num (pos (a .long))) t = lowering-by r n (a .act) (a .con) t u long el eu in
     lowering-by r n (a .con) (a .act) u v short es ev ∙ ap (lowerCell r n (a .con) (a .act) (num (negℤ (pos (a .short))))) first
+
+-- a link read through the file's reader is the one after so many limits
+pub link-held : {s : List ℕ} {n m k : ℕ} → Ready s n m k → (i : ℕ) → {a : Link} → a ≡ linkAt s (headOf s .limits) i → a ≡ linkAt s m i
+link-held {s} r i e = e ∙ ap (λ (m : ℕ). linkAt s m i) (sym (r .limits))
