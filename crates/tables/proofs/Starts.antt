@@ -90,6 +90,10 @@ open-cell-is r n strict x y t u c ec eu = lowering-by r n x y t u c (read-cell r
 pub limit-read : {s : List ℕ} {n m k : ℕ} → Ready s n m k → (i : ℕ) → i < m → {l : Limit} → l ≡ limitAt s i → LimitInRange version1 n l
 limit-read {s} {n} {m} {k} r i h e = rw e (limit-range s n m k r i h)
 
+-- a link read through the file's reader, which counts the limits itself, is the one behind m limits
+pub link-through : {s : List ℕ} {n m k : ℕ} → Ready s n m k → (i : ℕ) → {a : Link} → a ≡ linkAt s (headOf s .limits) i → a ≡ linkAt s m i
+link-through {s} r i e = e ∙ ap (λ (m : ℕ). linkAt s m i) (sym (r .limits))
+
 -- both ordinary edges of a link, one after the other
 pub edges-are : (r : Ranges) (n : ℕ) (a : Link) (t u v : List ℤ) (long short : ℤ) → cellOf (r .mark) long ≡ num (pos (a .long))
     → cellOf (r .mark) short ≡ num (negℤ (pos (a .short))) → u ≡ lowerCell r n (a .act) (a .con) (cellOf (r .mark) long) t
@@ -98,7 +102,3 @@ unfolding linkEdges
 edges-are r n a t u v long short el es eu ev =
     let first : u ≡ lowerCell r n (a .act) (a .con) (num (pos (a .long))) t = lowering-by r n (a .act) (a .con) t u long el eu in
     lowering-by r n (a .con) (a .act) u v short es ev ∙ ap (lowerCell r n (a .con) (a .act) (num (negℤ (pos (a .short))))) first
-
--- a link read through the file's reader is the one after so many limits
-pub link-held : {s : List ℕ} {n m k : ℕ} → Ready s n m k → (i : ℕ) → {a : Link} → a ≡ linkAt s (headOf s .limits) i → a ≡ linkAt s m i
-link-held {s} r i e = e ∙ ap (λ (m : ℕ). linkAt s m i) (sym (r .limits))
