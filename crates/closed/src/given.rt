@@ -12,8 +12,8 @@ use crate::bounds::at_most;
 use cell::Cell32;
 use plan::Limit;
 use plan::Link;
-use plan::limit_at;
 use plan::link_at;
+use reader::limit_of;
 
 // Whether the cell of a limit does not exceed it.
 fn limit_held(t: &[i32], n: usize, limit: Limit) -> bool
@@ -33,7 +33,7 @@ pub fn limits_held(file: &[u8], n: usize, m: u32, t: &[i32]) -> bool
 {
     let mut i = 0;
     while i < m {
-        let limit = limit_at(file, i);
+        let limit = limit_of(file, i);
         if !limit_held(t, n, limit) {
             return false;
         }

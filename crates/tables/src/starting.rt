@@ -11,8 +11,8 @@ use crate::lower_cell;
 use cell::Cell32;
 use plan::Limit;
 use plan::Link;
-use plan::limit_at;
-use plan::link_at;
+use reader::limit_of;
+use reader::link_of;
 
 // The first cells all the mark.
 pub fn mark_all(t: &mut [i32], count: usize)
@@ -69,7 +69,7 @@ fn limit_all(file: &[u8], n: usize, m: u32, k: u32, t: &mut [i32])
 {
     let mut i = 0;
     while i < m {
-        let l = limit_at(file, i);
+        let l = limit_of(file, i);
         limit_cell(t, n, l);
         i += 1;
     }
@@ -93,7 +93,7 @@ fn link_all(file: &[u8], n: usize, m: u32, k: u32, t: &mut [i32])
 {
     let mut i = 0;
     while i < k {
-        let a = link_at(file, m, i);
+        let a = link_of(file, i);
         link_edges(t, n, a);
         i += 1;
     }

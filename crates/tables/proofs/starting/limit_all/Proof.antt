@@ -25,15 +25,15 @@ loop-holds c =
     let s = c .before in
     turns-none (s .pre .1)
 
-limit-at-requires : tie.Need-limit-at-requires Inv-loop μ-loop
-limit-at-requires c κs = search needs
+limit-of-requires : tie.Need-limit-of-requires Inv-loop μ-loop
+limit-of-requires c κs = search needs
 
 limit-cell-requires : tie.Need-limit-cell-requires Inv-loop μ-loop
 limit-cell-requires c κs =
     let s = c .before .before .before .before .before in
     let loop = c .before .before .before .loop in
-    let limit-at = c .before .limit-at in
-    (few (s .pre .0), limit-read (s .pre .0) (loop .i) (omega arith) (limit-at .ensures), loop .inv .lowered .sound)
+    let limit-of = c .before .limit-of in
+    (few (s .pre .0), limit-read (s .pre .0) (loop .i) (omega arith) (limit-of .ensures), loop .inv .lowered .sound)
 
 add-i : tie.Need-add-i Inv-loop μ-loop
 add-i c = search needs
@@ -45,12 +45,12 @@ loop-again : tie.Need-loop-again Inv-loop μ-loop
 loop-again c =
     let s = c .before .before .before .before .before .before .before in
     let loop = c .before .before .before .before .before .loop in
-    let limit-at = c .before .before .before .limit-at in
+    let limit-of = c .before .before .before .limit-of in
     let limit-cell = c .before .limit-cell in
     let a = s .args in
     let range = limit-range (a .file .now) (a .n) (a .m) (a .k) (s .pre .0) in
     turns-more (limit-lowers version1 version1-coherent (a .n) (limitAt (a .file .now)) (a .m) (λ i hi. range i hi .from) (λ i hi. range i hi .to)) (loop .inv) (omega arith)
-    (at-read (λ l. limitCell version1 (a .n) l (loop .t)) (limit-at .ensures) (limit-cell .ensures))
+    (at-read (λ l. limitCell version1 (a .n) l (loop .t)) (limit-of .ensures) (limit-cell .ensures))
 
 same-length : tie.Need-same-length Inv-loop μ-loop
 same-length c = search needs
@@ -68,7 +68,7 @@ limit-all-spec =
     Inv-loop
     μ-loop
     loop-holds
-    limit-at-requires
+    limit-of-requires
     limit-cell-requires
     add-i
     loop-less
