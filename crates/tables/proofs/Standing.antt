@@ -21,6 +21,7 @@ use Rattle.tables.specs.Fair.{Fair, Unfair}
 use Rattle.tables.specs.Ends.{Refused}
 use Rattle.tables.proofs.Lowering.{Lowered}
 use Rattle.tables.proofs.Heights.{lowered-heights, same-heights}
+use Rattle.tables.proofs.Links.{link-points}
 use Rattle.tables.proofs.Ready.{ready-points, ready-few, ready-pointed, ready-weighted, ready-limits, ready-links}
 use Rattle.tables.proofs.Walked.{has-open}
 use Rattle.tables.proofs.Spreads.{strict-round-lowered, open-round-lowered, case-edges-lowered}
@@ -115,6 +116,10 @@ module _ {s : List ℕ} {n m k : ℕ} (r : Ready s n m k) where
 
   -- ---- one round
 
+  -- after a round of any table that a sweep stores, it is one
+  pub round-sound : (x u : List ℤ) → Sound version1 n x → u ≡ strictRound version1 n (linkAt s m) k x → Sound version1 n u
+  round-sound x u h e = rw e (strict-round-lowered version1 version1-coherent n (linkAt s m) k (link-points r) x h .sound)
+
   module _ {a b x y : List ℤ} (t : Standing s m k a b x y) {u : List ℤ} (eu : u ≡ strictRound version1 n (linkAt s m) k x) where
     strict-is : strictRound version1 (planOf s .points) (linkAt s m) k x ≡ u
     strict-is = ap (λ (c : ℕ). strictRound version1 c (linkAt s m) k x) same-points ∙ sym eu
@@ -125,11 +130,7 @@ module _ {s : List ℕ} {n m k : ℕ} (r : Ready s n m k) where
         (strict-round-lowered version1 version1-coherent (planOf s .points) (linkAt s m) k (ready-links s n m k r .links .points) x
         (t .rounds .strict-carried .walks .sound))
 
-    -- the strict table after it
-    pub round-sound : Sound version1 n u
-    round-sound = subst (λ (c : ℕ). Sound version1 c u) same-points (strict-lowered .sound)
-
-    -- is no higher than before
+    -- the strict table is no higher than before
     pub round-falls : heights version1 (n * n) u ≤ heights version1 (n * n) x
     round-falls =
         subst (λ (c : ℕ). heights version1 (c * c) u ≤ heights version1 (c * c) x) same-points

@@ -83,14 +83,17 @@ strict-round-requires : tie.Need-strict-round-requires Inv-loop μ-loop
 strict-round-requires c κs =
     let s = c .before .before .before .before .before .before .before .before .before .before .before .before .before .before .before .before in
     let loop = c .before .before .before .before .before .loop in
-    (s .pre .0, standing-strict (s .pre .0) (loop .inv .0))
+    search (s .pre .0, standing-strict (s .pre .0) (loop .inv .0), standing-open (s .pre .0) (loop .inv .0))
 
 strict-height-requires-2 : tie.Need-strict-height-requires-2 Inv-loop μ-loop
 strict-height-requires-2 c κs =
     let s = c .before .before .before .before .before .before .before .before .before .before .before .before .before .before .before .before .before .before .before in
     let loop = c .before .before .before .before .before .before .before .before .loop in
     let strict-round = c .before .before .strict-round in
-    (few (s .pre .0), round-sound (s .pre .0) (loop .inv .0) (strict-round .ensures))
+    let strict = standing-strict (s .pre .0) (loop .inv .0) in
+    let «open» = standing-open (s .pre .0) (loop .inv .0) in
+    let round = round-sound (s .pre .0) _ _ (search (strict, «open»)) (strict-round .ensures) in
+    search (few (s .pre .0), round, strict)
 
 same-length-3 : tie.Need-same-length-3 Inv-loop μ-loop
 same-length-3 c =
@@ -145,8 +148,10 @@ open-round-requires c κs =
     let s = c .before .before .before .before .before .before .before .before .before .before .before .before .before .before .before .before .before .before .before .before .before .before .before in
     let loop = c .before .before .before .before .before .before .before .before .before .before .before .before .loop in
     let strict-round = c .before .before .before .before .before .before .strict-round in
-    let u = round-sound (s .pre .0) (loop .inv .0) (strict-round .ensures) in
-    (s .pre .0, u .room, standing-open (s .pre .0) (loop .inv .0))
+    let strict = standing-strict (s .pre .0) (loop .inv .0) in
+    let «open» = standing-open (s .pre .0) (loop .inv .0) in
+    let round = round-sound (s .pre .0) _ _ (search (strict, «open»)) (strict-round .ensures) in
+    search (s .pre .0, round, strict, «open»)
 
 loop-less : tie.Need-loop-less Inv-loop μ-loop
 loop-less c =
