@@ -1,4 +1,4 @@
-// How long Judge, Check and Add take, on the same plans in one run: the library (where linked), the same sweep in plain C++, source document 001's
+// How long Judge, Check and Add take, on the same plans in one run: the library (where linked), the sweep and the library's own way in plain C++, source document 001's
 // RUL- algorithm for the verdict alone and with the two tables that a post would still need, and Boost's Floyd-Warshall on plans without links.
 // A repeat times every contestant once, one after the other, so that a slow moment falls on all; ratios are taken within a repeat.
 #include <pthread.h>
@@ -180,9 +180,9 @@ void measure(Report &report, const std::string &plans_are, const std::vector<Con
 }
 
 void print(const Report &report) {
-  std::printf("\n%s\n\n| n | k | sweeps", report.call.c_str());
+  std::printf("\n%s\n\n| n | k | sweeps | rounds", report.call.c_str());
   for (const std::string &name : report.names) std::printf(" | %s", name.c_str());
-  std::printf(" |\n|--|--|--");
+  std::printf(" |\n|--|--|--|--");
   for (std::size_t i = 0; i < report.names.size(); ++i) std::printf("|--");
   std::printf("|\n%s", report.rows.c_str());
 }
@@ -230,8 +230,7 @@ int main(int words, char **word) {
   checks.push_back(checking("library", post_check));
   adds.push_back(adding("library", post_add));
 #endif
-  judges.push_back(judging("by spreading", [](auto... lent) { return sweep::judge_by_spreading(lent..., false); }));
-  judges.push_back(judging("by joins and spreading", [](auto... lent) { return sweep::judge_by_spreading(lent..., true); }));
+  judges.push_back(judging("C++ by spreading", sweep::judge_by_spreading));
   judges.push_back({"RUL- verdict", [](const Prepared &p) { seen = rul::controllable(p.file.data(), p.file.size()); }});
   judges.push_back({"RUL- and two tables",
                     [](const Prepared &p) { seen = rul::controllable_with_tables(p.file.data(), p.file.size(), strict, open_cells); }});
@@ -241,15 +240,17 @@ int main(int words, char **word) {
     for (std::uint32_t k : {0u, n / 4, n / 2}) {
       Random random(budget.seed * 1000003 + n * 100 + k);
       std::vector<Prepared> plans;
-      unsigned sweeps = 0, most_sweeps = 0;
+      unsigned sweeps = 0, most_sweeps = 0, rounds = 0, most_rounds = 0;
       for (int i = 0; i < 12; ++i) {
         const Plan plan = draw(random, n, k);
         plans.push_back(prepare(random, plan));
         sweep::judge(plans.back().file.data(), plans.back().file.size(), strict, most_cells, open_cells, most_cells);
         sweeps += sweep::sweeps_of_last(), most_sweeps = std::max(most_sweeps, sweep::sweeps_of_last());
+        sweep::judge_by_spreading(plans.back().file.data(), plans.back().file.size(), strict, most_cells, open_cells, most_cells);
+        rounds += sweep::sweeps_of_last(), most_rounds = std::max(most_rounds, sweep::sweeps_of_last());
       }
       char plans_are[80];
-      std::snprintf(plans_are, sizeof plans_are, "%u | %u | %.1f, at most %u", n, k, sweeps / 12.0, most_sweeps);
+      std::snprintf(plans_are, sizeof plans_are, "%u | %u | %.1f, at most %u | %.1f, at most %u", n, k, sweeps / 12.0, most_sweeps, rounds / 12.0, most_rounds);
       std::vector<Contestant> with_boost = judges;
       with_boost.push_back({"Boost Floyd-Warshall", k == 0 ? boost_floyd_warshall : std::function<void(const Prepared &)>()});
       measure(judge_report, plans_are, with_boost, plans, repeats);

@@ -1,4 +1,4 @@
-// Judge by sweeps over two tables, as a C++ programmer would write it for speed. It is written apart from reference.cpp and shares nothing
+// Judge by sweeps over two tables, and by spreading, as a C++ programmer would write them for speed. Written apart from reference.cpp and sharing nothing
 // with it: the file is read where it lies, a sweep joins by middle, from, to, and sums are kept in the cell's own type.
 #include "sweep.hpp"
 
@@ -179,17 +179,16 @@ struct Tables {
   }
 };
 
-// Another way to the same tables, measured beside the sweep: from empty tables each edge, given, lower-case, or lowered by Lower or Upper, is spread
-// through the table at once, row by row, as source document 004 does with an added limit. Between edges a table is closed under joins,
-// so an edge from a to b closes a negative walk exactly if it and the cell from b to a do, and no cell ever leaves its range.
+// The library's way to the same tables. One pass of joins over the given edges; then each edge that a link yields, lower-case or by Lower or Upper, is spread
+// through the table at once, row by row, as source document 004 does with an added limit. Between edges a table is closed under joins, so an edge from
+// a to b closes a negative walk exactly if it and the cell from b to a do, and no cell ever leaves its range.
 template <class Cell>
 struct SpreadTables : Tables<Cell> {
   using Base = Tables<Cell>;
   using Base::links, Base::n, Base::none, Base::open, Base::strict, Base::view;
-  const bool joins_first;  // one full pass of joins over the given edges in place of spreading each of them
   bool negative = false, moved = false;
 
-  SpreadTables(const View &view, Cell *strict, Cell *open, Cell top, bool joins_first) : Base(view, strict, open, top), joins_first(joins_first) {}
+  using Base::Base;
 
   void spread(Cell *table, std::size_t a, std::size_t b, Cell weight) {
     if (negative || weight >= table[a * n + b]) return;
@@ -197,29 +196,15 @@ struct SpreadTables : Tables<Cell> {
       negative = true;
       return;
     }
+    moved = true;
     for (std::size_t x = 0; x < n; ++x) {
       const Cell to_a = table[x * n + a];
       if (to_a != none && to_a + weight < table[x * n + b]) this->join_row(table + x * n, table + b * n, to_a + weight);
     }
   }
 
-  void derived(std::size_t a, std::size_t b, Cell weight) {
-    if (negative || weight >= strict[a * n + b]) return;
-    moved = true;
-    spread(strict, a, b, weight);
-    spread(open, a, b, weight);
-  }
-
   void given() {
-    for (std::size_t x = 0; x < n; ++x) spread(strict, x, 0, 0);
-    for (std::size_t i = 0; i < view.m; ++i) {
-      const auto limit = view.limit(i);
-      spread(strict, limit.x, limit.y, limit.w);
-    }
-    for (std::size_t i = 0; i < view.k; ++i) spread(strict, links[i].a, links[i].c, links[i].u), spread(strict, links[i].c, links[i].a, -links[i].l);
-  }
-
-  void given_by_joins() {
+    this->start_empty();
     for (std::size_t i = 0; i < view.m; ++i) {
       const auto limit = view.limit(i);
       this->offer(strict[limit.x * n + limit.y], limit.w);
@@ -229,25 +214,36 @@ struct SpreadTables : Tables<Cell> {
     negative = this->negative_diagonal(strict);
   }
 
+  void strict_round() {
+    for (std::size_t i = 0; i < view.k; ++i)
+      for (std::size_t j = 0; j < view.k; ++j) {
+        const Cell edge = strict[links[i].c * n + links[j].c];
+        if (i != j && edge < links[j].u - links[j].l) spread(strict, links[i].a, links[j].c, links[i].l + edge);
+      }
+    for (std::size_t i = 0; i < view.k; ++i)
+      for (std::size_t from = 0; from < n; ++from) {
+        const Cell edge = strict[from * n + links[i].c];
+        if (edge != none) spread(strict, from, links[i].a, std::max<Cell>(edge - links[i].u, -links[i].l));
+      }
+  }
+
+  // The open table takes over every strict cell to which Lower and Upper lead; all others follow from these.
+  void open_round() {
+    for (std::size_t i = 0; i < view.k; ++i) {
+      for (std::size_t j = 0; j < view.k; ++j) spread(open, links[i].a, links[j].c, strict[links[i].a * n + links[j].c]);
+      for (std::size_t from = 0; from < n; ++from) spread(open, from, links[i].a, strict[from * n + links[i].a]);
+    }
+  }
+
   bool settle() {
-    last_sweeps = 0;
-    this->start_empty();
-    if (joins_first) given_by_joins();
-    else given();
+    given();
     std::copy_n(strict, n * n, open);
     for (std::size_t i = 0; i < view.k; ++i) spread(open, links[i].a, links[i].c, links[i].l);
-    for (moved = true; moved && !negative; ++last_sweeps) {
+    for (last_sweeps = 1; !negative; ++last_sweeps) {
       moved = false;
-      for (std::size_t i = 0; i < view.k; ++i)
-        for (std::size_t j = 0; j < view.k; ++j) {
-          const Cell edge = strict[links[i].c * n + links[j].c];
-          if (i != j && edge < links[j].u - links[j].l) derived(links[i].a, links[j].c, links[i].l + edge);
-        }
-      for (std::size_t i = 0; i < view.k; ++i)
-        for (std::size_t from = 0; from < n; ++from) {
-          const Cell edge = strict[from * n + links[i].c];
-          if (edge != none) derived(from, links[i].a, std::max<Cell>(edge - links[i].u, -links[i].l));
-        }
+      strict_round();
+      if (!moved) break;
+      open_round();
     }
     return !negative;
   }
@@ -339,12 +335,12 @@ std::uint64_t judge(const std::uint8_t *file, std::size_t file_len, std::int32_t
 }
 
 std::uint64_t judge_by_spreading(const std::uint8_t *file, std::size_t file_len, std::int32_t *strict, std::size_t strict_len,
-                                 std::int32_t *open, std::size_t open_len, bool joins_first) {
+                                 std::int32_t *open, std::size_t open_len) {
   View view;
   last_sweeps = 0;
   if (const auto refused = open_file(view, file, file_len, nullptr)) return refused;
   if (std::min(strict_len, open_len) < view.n * view.n) return 9;
-  SpreadTables<std::int32_t> tables(view, strict, open, top_of_file, joins_first);
+  SpreadTables<std::int32_t> tables(view, strict, open, top_of_file);
   return tables.settle() ? 0 : refused_tables(view, strict, open);
 }
 

@@ -1,4 +1,4 @@
-// The same sweep as the library's, in plain C++: the benchmark's measure, and what stands in for the library until that is built.
+// Plain C++ beside the library: the full sweep, which is the benchmark's measure and stands in for the library until that is built, and the library's own way.
 // Parameters and answers are those of post.h.
 #pragma once
 #include <cstddef>
@@ -15,12 +15,11 @@ std::uint64_t earliest(const std::uint8_t *file, std::size_t file_len, std::int3
 std::uint64_t add(const std::uint8_t *file, std::size_t file_len, std::uint32_t x, std::uint32_t y, std::int32_t w, std::int32_t *strict,
                   std::size_t strict_len, std::int32_t *open, std::size_t open_len, std::int64_t *scratch, std::size_t scratch_len);
 
-// Judge by spreading one edge after the other (sweep.cpp, SpreadTables), or by one pass of joins over the given edges and then spreading:
-// what there is to gain.
+// Judge in the library's way: one pass of joins, then one edge after the other spread through both tables (sweep.cpp, SpreadTables).
 std::uint64_t judge_by_spreading(const std::uint8_t *file, std::size_t file_len, std::int32_t *strict, std::size_t strict_len,
-                                 std::int32_t *open, std::size_t open_len, bool joins_first);
+                                 std::int32_t *open, std::size_t open_len);
 
-// Sweeps that the last Judge, Earliest or Add took, the one that changed nothing included; 0 where it came to no sweep.
+// Sweeps, or rounds of spreading, that the last call took, the one that changed nothing included; 0 where it came to none.
 unsigned sweeps_of_last();
 
 }  // namespace sweep

@@ -1,5 +1,5 @@
-// How many sweeps Judge needs, counted by the plain C++ sweep: over random plans of up to 12 points and 5 links, then of any size, and then by
-// climbing, which changes a plan a little and keeps the change if it needs no fewer sweeps.
+// How many rounds of spreading Judge needs, and how many full sweeps it would need, counted by the plain C++ of both: over random plans of up to 12 points and
+// 5 links, then of any size, and then by climbing, which changes a plan a little and keeps the change if it needs no fewer.
 #include <algorithm>
 
 #include "random.hpp"
@@ -9,24 +9,31 @@
 
 namespace {
 
+struct Way {
+  const char *counted;
+  decltype(&sweep::judge) judge;
+};
+const Way by_rounds = {"rounds", sweep::judge_by_spreading}, by_sweeps = {"sweeps", sweep::judge};
+
 struct Judged {
   unsigned sweeps;
   bool controllable;
 };
 
-Judged judge(const Plan &plan) {
+Judged judge(const Way &way, const Plan &plan) {
   static std::int32_t strict[64 * 64], open[64 * 64];
   const auto file = file_of(plan);
-  const std::uint64_t answer = sweep::judge(file.data(), file.size(), strict, 64 * 64, open, 64 * 64);
+  const std::uint64_t answer = way.judge(file.data(), file.size(), strict, 64 * 64, open, 64 * 64);
   return {sweep::sweeps_of_last(), answer == 0};
 }
 
 struct Most {
+  const Way &way;
   unsigned sweeps[2] = {0, 0};  // refused, controllable
   std::uint64_t plans[2] = {0, 0}, total[2] = {0, 0};
-  Plan plan[2];
+  Plan plan[2] = {};
   void see(const Plan &seen) {
-    const Judged judged = judge(seen);
+    const Judged judged = judge(way, seen);
     const int verdict = judged.controllable;
     ++plans[verdict];
     total[verdict] += judged.sweeps;
@@ -34,8 +41,8 @@ struct Most {
   }
   void print(const char *what) const {
     for (int verdict : {1, 0}) {
-      std::printf("  %s, %s: %llu plans, most sweeps %u, on average %.2f\n", what, verdict ? "controllable" : "uncontrollable",
-                  static_cast<unsigned long long>(plans[verdict]), sweeps[verdict],
+      std::printf("  %s, %s: %llu plans, most %s %u, on average %.2f\n", what, verdict ? "controllable" : "uncontrollable",
+                  static_cast<unsigned long long>(plans[verdict]), way.counted, sweeps[verdict],
                   plans[verdict] ? double(total[verdict]) / double(plans[verdict]) : 0.0);
       if (plan[verdict].points <= 12) std::printf("    %s\n", notation(plan[verdict]).c_str());
     }
@@ -88,24 +95,24 @@ Plan start(Random &random, std::uint32_t n, std::uint32_t k) {
   return plan;
 }
 
-// The most sweeps that climbing finds for a verdict.
-void climb(const Budget &budget, std::uint32_t n, std::uint32_t k, bool controllable, int starts, int steps) {
+// The most that climbing finds for a verdict.
+void climb(const Way &way, const Budget &budget, std::uint32_t n, std::uint32_t k, bool controllable, int starts, int steps) {
   Plan best;
   unsigned most = 0;
   Random random(budget.seed * 7919 + n * 64 + k * 2 + controllable);
   for (int i = 0; i < starts; ++i) {
     Plan plan = start(random, n, k);
-    unsigned here = judge(plan).controllable == controllable ? judge(plan).sweeps : 0;
+    unsigned here = judge(way, plan).controllable == controllable ? judge(way, plan).sweeps : 0;
     for (int step = 0; step < steps; ++step) {
       Plan next = changed(random, plan);
       for (int more = random.below(3); more > 0; --more) next = changed(random, next);
-      const Judged judged = judge(next);
+      const Judged judged = judge(way, next);
       const unsigned there = judged.controllable == controllable ? judged.sweeps : 0;
       if (there >= here) plan = next, here = there;
     }
     if (here > most) most = here, best = plan;
   }
-  std::printf("  climbing, %2u points and %u links, %s: most sweeps %u\n    %s\n", n, k, controllable ? "controllable" : "uncontrollable", most,
+  std::printf("  climbing, %2u points and %u links, %s: most %s %u\n    %s\n", n, k, controllable ? "controllable" : "uncontrollable", way.counted, most,
               notation(best).c_str());
   if (reference::settle(best, most_weight).controllable != controllable) {
     std::printf("DIFFERENCE: the reference has another verdict on this plan\n");
@@ -117,20 +124,22 @@ void climb(const Budget &budget, std::uint32_t n, std::uint32_t k, bool controll
 
 int main(int words, char **word) {
   Budget budget(words, word, 30000);
-  Most small, any;
+  Most small[] = {{by_rounds}, {by_sweeps}}, any[] = {{by_rounds}, {by_sweeps}};
   while (budget.more()) {
     Random random = budget.round();
-    small.see(random_plan(random, 12, most_limits, 5));
+    Plan plan = random_plan(random, 12, most_limits, 5);
+    for (Most &most : small) most.see(plan);
     if (budget.done % 10 != 0) continue;
-    Plan plan = random_plan(random);
-    any.see(plan);
+    plan = random_plan(random);
+    for (Most &most : any) most.see(plan);
     for (int i = 0; i < 20 && plan.points < 30; ++i) plan = random_plan(random);  // large ones are rare among the shapes
-    any.see(plan);
+    for (Most &most : any) most.see(plan);
   }
   std::printf("sweeps: %.1f s\n", budget.spent());
-  small.print("up to 12 points and 5 links");
-  any.print("up to 64 points and 32 links");
+  for (const Most &most : small) most.print("up to 12 points and 5 links");
+  for (const Most &most : any) most.print("up to 64 points and 32 links");
   const int starts = int(std::min<std::uint64_t>(40, 2 + budget.done / 10000)), steps = 4000;
   for (std::uint32_t k : {2u, 3u, 4u, 5u, 6u})
-    for (bool controllable : {true, false}) climb(budget, 2 * k + 2, k, controllable, starts, steps);
+    for (bool controllable : {true, false})
+      for (const Way *way : {&by_rounds, &by_sweeps}) climb(*way, budget, 2 * k + 2, k, controllable, starts, steps);
 }

@@ -19,15 +19,12 @@ bool same(const std::vector<Wide> &table, const std::vector<std::int32_t> &cells
   return true;
 }
 
-// Spreading, with and without a pass of joins first, must give the verdict and both tables.
+// Spreading must give the verdict and both tables.
 bool spreads(const Plan &plan, const reference::Settled &settled) {
   const auto file = file_of(plan);
-  for (bool joins_first : {false, true}) {
-    std::vector<std::int32_t> strict(plan.points * plan.points), open(strict);
-    const auto answer = sweep::judge_by_spreading(file.data(), file.size(), strict.data(), strict.size(), open.data(), open.size(), joins_first);
-    if (settled.controllable ? answer != 0 || !same(settled.strict, strict) || !same(settled.open, open) : answer != 11) return false;
-  }
-  return true;
+  std::vector<std::int32_t> strict(plan.points * plan.points), open(strict);
+  const auto answer = sweep::judge_by_spreading(file.data(), file.size(), strict.data(), strict.size(), open.data(), open.size());
+  return settled.controllable ? answer == 0 && same(settled.strict, strict) && same(settled.open, open) : answer == 11;
 }
 
 bool differs(const Plan &plan) {
