@@ -1,4 +1,4 @@
--- The sweep as functions of lists: what each function of this crate computes of a lent table. Every step lowers one cell to what a rule yields,
+-- The sweep as functions of lists: one lowering, the joins and the first tables, which Judge and Add both do, and the whole sweep, which Add repeats at 64 bits. Every step lowers one cell to what a rule yields,
 -- where that is smaller. The order is the one the reason list of a refused night is to have: joins by middle, from, to; Lower by link and then by second
 -- link; Upper by point and then link; the open table after the strict one. Assumes nothing.
 use mathlib.Core.Bool.{cond}

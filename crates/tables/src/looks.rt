@@ -1,4 +1,4 @@
-// What is looked at after every sweep: whether a cell is under the reach or a diagonal cell below 0, and how far the cells can still fall.
+// What is looked at in every round: whether a cell is under the reach or a diagonal cell below 0, and how far the cells can still fall.
 ghost use mathlib.Core.Path.{_≡_};
 ghost use Prim.Native.Nat.{_*_, _≤_, _<_};
 ghost use lib.ListN.{length, getD};
