@@ -12,9 +12,9 @@ use Rattle.rules.specs.Plan.{Ranges}
 use Rattle.rules.specs.Cells.{Cell, mark, _+ᶜ_, cellOf, tableOf}
 use Rattle.cell.specs.Steps.{smallerᶜ, Stored, clamped, numberOf}
 use Rattle.tables.specs.Table.{Sound}
-use Rattle.tables.specs.Sweep.{iter, lowerCell, joinCell, joinRow}
+use Rattle.tables.specs.Sweep.{iter, Between, lowerCell, joinCell, joinRow}
 use Rattle.cell.proofs.Cells.{number-back}
-use Rattle.tables.proofs.Lowering.{Lowered, Lowers, lowered-refl, lowered-trans}
+use Rattle.tables.proofs.Lowering.{Lowered, Lowers, lowered-refl, lowered-trans, iter-lowered}
 
 -- a cell read, the new one stored if it is smaller, and written: one lowering
 pub lowering-is : (r : Ranges) (n x y : ℕ) (c : Cell) (t u : List ℤ) (old kept new : ℤ) → old ≡ getD t (x * n + y) (pos zero)
@@ -94,3 +94,50 @@ pub turns-all : {r : Ranges} {n m : ℕ} {f : ℕ → List ℤ → List ℤ} {i 
 turns-all {r} {n} {m} {f} {i} {start} {now} t h =
     let e : i ≡ m = omega (arith, t .bound) in
     subst (λ (k : ℕ). now ≡ iter f k start) e (t .is)
+
+-- i turns of a loop that applies f to a table from the first on and before the last
+pub record Stretch (r : Ranges) (n : ℕ) (f : ℕ → List ℤ → List ℤ) (first last i : ℕ) (start now : List ℤ) : Type 0 where
+  pub bound : i ≤ last
+  pub is : Between f first i start now
+  pub lowered : Lowered r n start now
+
+-- none yet
+pub stretch-none : {r : Ranges} {n : ℕ} {f : ℕ → List ℤ → List ℤ} {first last : ℕ} {t : List ℤ} → first ≤ last → Sound r n t
+    → Stretch r n f first last first t t
+stretch-none {r} {n} {f} {first} {last} {t} h s = record { bound = h; is = λ u e. e; lowered = lowered-refl r n t s }
+
+-- one more
+pub stretch-more : {r : Ranges} {n m : ℕ} {f : ℕ → List ℤ → List ℤ} {first last i : ℕ} {start now next : List ℤ} → Lowers r n m f → last ≤ m
+    → Stretch r n f first last i start now → i < last → next ≡ f i now → Stretch r n f first last (i + 1) start next
+stretch-more {r} {n} {m} {f} {first} {last} {i} {start} {now} {next} l hm t h e =
+    record {
+      bound = omega arith;
+      is = λ s q. rw (add-one i) (e ∙ ap (f i) (t .is s q));
+      lowered =
+          subst (λ (u : List ℤ). Lowered r n start u) (sym e)
+          (lowered-trans r n start now (f i now) (t .lowered) (l i (omega arith) now (t .lowered .sound)));
+    }
+
+-- all of them
+pub stretch-all : {r : Ranges} {n : ℕ} {f : ℕ → List ℤ → List ℤ} {first last i : ℕ} {start now : List ℤ} → Stretch r n f first last i start now → last ≤ i
+    → Between f first last start now
+stretch-all {r} {n} {f} {first} {last} {i} {start} {now} t h s q =
+    let e : i ≡ last = omega (arith, t .bound) in
+    subst (λ (k : ℕ). now ≡ iter f k s) e (t .is s q)
+
+-- ---- steps before one, that one, and those after it
+
+module _ {r : Ranges} {n m : ℕ} {f : ℕ → List ℤ → List ℤ} (l : Lowers r n m f) {i : ℕ} (h : i < m) {t u : List ℤ} (s : Sound r n t)
+    (before : Between f 0 i t u) where
+  iter-before : u ≡ iter f i t
+  iter-before = before t refl
+
+  pub before-sound : Sound r n u
+  before-sound = rw iter-before (iter-lowered r n i f (λ j q. l j (omega arith)) t s .sound)
+
+  module _ {v : List ℤ} (one : v ≡ f i u) where
+    pub here-sound : Sound r n v
+    here-sound = rw one (l i h u before-sound .sound)
+
+    pub and-after : {w : List ℤ} → Between f (i + 1) m v w → w ≡ iter f m t
+    and-after after = after t (rw (add-one i) (one ∙ ap (f i) iter-before))

@@ -1,6 +1,7 @@
 -- The sweep as functions of lists: one lowering, the joins and the first tables, which Judge and Add both do, and the whole sweep, which Add repeats at 64 bits. Every step lowers one cell to what a rule yields,
 -- where that is smaller. The order is the one the reason list of a refused night is to have: joins by middle, from, to; Lower by link and then by second
 -- link; Upper by point and then link; the open table after the strict one. Assumes nothing.
+use mathlib.Core.Path.{_≡_}
 use mathlib.Core.Bool.{cond}
 use mathlib.Core.List.{List}
 use Prim.Native.Nat.{ℕ, zero, suc, _+_, _*_}
@@ -15,6 +16,10 @@ use Rattle.cell.specs.Steps.{smallerᶜ, clamped, numberOf, height}
 abbrev pub iter : (ℕ → List ℤ → List ℤ) → ℕ → List ℤ → List ℤ
 iter f zero t = t
 iter f (suc m) t = f m (iter f m t)
+
+-- from the table after the first i of such steps to the one after the first j
+abbrev pub Between : (ℕ → List ℤ → List ℤ) → ℕ → ℕ → List ℤ → List ℤ → Type 0
+Between f i j t u = (s : List ℤ) → t ≡ iter f i s → u ≡ iter f j s
 
 -- the cell x to y lowered to c, as a sweep stores it, where that is smaller
 unfoldable pub lowerCell : Ranges → ℕ → ℕ → ℕ → Cell → List ℤ → List ℤ

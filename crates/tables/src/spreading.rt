@@ -4,6 +4,7 @@ ghost use Prim.Native.Nat.{_≤_, _<_};
 ghost use Rattle.rules.specs.Plan.{version1};
 ghost use Rattle.cell.specs.Steps.{cell32, Stored};
 ghost use Rattle.tables.specs.Table.{Sound};
+ghost use Rattle.tables.specs.Sweep.{Between};
 ghost use Rattle.tables.specs.Spread.{spreadRow, spreadAll, takeEdge, newEdge};
 use crate::get;
 use crate::joins::row_by;
@@ -22,16 +23,26 @@ fn spread_row(t: &mut [i32], n: usize, a: usize, b: usize, w: Cell32, x: usize)
     }
 }
 
-// Every row.
+// The rows from first on and before last.
+fn spread_rows(t: &mut [i32], n: usize, a: usize, b: usize, w: Cell32, first: usize, last: usize)
+    requires { ⌜ (a < n) × (b < n) × (n ≤ 64) × (first ≤ last) × (last ≤ n) × Sound version1 n (now t) × Stored (version1 .reach) (cell32 (w .v)) ⌝ }
+    ensures { λ r. ⌜ Between (spreadRow version1 n a b (cell32 (w .v))) first last (now (t .entry)) (now (t .exit)) ⌝ }
+{
+    let mut x = first;
+    while x < last {
+        spread_row(t, n, a, b, w, x);
+        x += 1;
+    }
+}
+
+// Every row. The row of b is apart, as the middle's is in the joins.
 fn spread_all(t: &mut [i32], n: usize, a: usize, b: usize, w: Cell32)
     requires { ⌜ (a < n) × (b < n) × (n ≤ 64) × Sound version1 n (now t) × Stored (version1 .reach) (cell32 (w .v)) ⌝ }
     ensures { λ r. ⌜ now (t .exit) ≡ spreadAll version1 n a b (cell32 (w .v)) (now (t .entry)) ⌝ }
 {
-    let mut x = 0;
-    while x < n {
-        spread_row(t, n, a, b, w, x);
-        x += 1;
-    }
+    spread_rows(t, n, a, b, w, 0, b);
+    spread_row(t, n, a, b, w, b);
+    spread_rows(t, n, a, b, w, b + 1, n);
 }
 
 // An edge from a to b of w: one that closes a walk below 0 is written to the diagonal, where that is looked for; any other is spread.

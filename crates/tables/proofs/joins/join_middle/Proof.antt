@@ -1,64 +1,45 @@
--- `joins::join_middle` meets its contract: a turn for each row. Assumes nothing.
-use Prim.Native.Nat.{_-_}
+-- `joins::join_middle` meets its contract: the rows before the middle, its own, and those after it. Assumes nothing.
+use borrow.Author.Needs.{needs}
 use native.Mathlib.Omega.{arith}
 use Rattle.rules.specs.Plan.{version1}
 use Rattle.rules.proofs.Demands.{version1-coherent}
-use Rattle.tables.specs.Sweep.{joinRow, joinMiddle}
-use Rattle.tables.proofs.Turns.{Turns, turns-none, turns-more, turns-all}
+use Rattle.tables.specs.Sweep.{joinMiddle}
+use Rattle.tables.proofs.Turns.{before-sound, here-sound, and-after}
 use Rattle.tables.proofs.Steps.{row-lowers}
-use borrow.Author.Needs.{needs}
 use Rattle.tables.proofs.joins.join_middle.Statement.{statement}
 use Rattle.tables.proofs.joins.join_middle.Tie as tie
 
-abbrev Inv-loop : tie.InvT-loop
-Inv-loop t₀ n y x₀ t x = Turns version1 n n (joinRow version1 n y) x t₀ t
+join-rows-requires : tie.Need-join-rows-requires
+join-rows-requires c κs = search needs
 
-abbrev μ-loop : tie.MeasureT-loop
-μ-loop t₀ n y x₀ t x = n - x
-
-loop-holds : tie.Need-loop-holds Inv-loop μ-loop
-loop-holds c =
-    let s = c in
-    turns-none (s .pre .2)
-
-join-row-requires : tie.Need-join-row-requires Inv-loop μ-loop
+join-row-requires : tie.Need-join-row-requires
 join-row-requires c κs =
-    let s = c .before .before .before in
-    let loop = c .before .before .loop in
-    (omega arith, s .pre .0, s .pre .1, loop .inv .lowered .sound)
+    let s = c .before .before .before .before in
+    let join-rows = c .before .before .join-rows in
+    (s .pre .0, s .pre .0, s .pre .1, before-sound (row-lowers version1 version1-coherent (s .args .n) (s .args .y)) (s .pre .0) (s .pre .2) (join-rows .ensures))
 
-add-x : tie.Need-add-x Inv-loop μ-loop
-add-x c = search needs
+add-join-rows : tie.Need-add-join-rows
+add-join-rows c = search needs
 
-loop-less : tie.Need-loop-less Inv-loop μ-loop
-loop-less c = search needs
+join-rows-requires-2 : tie.Need-join-rows-requires-2
+join-rows-requires-2 c κs =
+    let s = c .before .before .before .before .before .before .before in
+    let join-rows = c .before .before .before .before .before .join-rows in
+    let join-row = c .before .before .join-row in
+    (s .pre .0, s .pre .1, omega arith, omega arith, here-sound (row-lowers version1 version1-coherent (s .args .n) (s .args .y)) (s .pre .0) (s .pre .2) (join-rows .ensures) (join-row .ensures))
 
-loop-again : tie.Need-loop-again Inv-loop μ-loop
-loop-again c =
-    let s = c .before .before .before .before .before in
-    let loop = c .before .before .before .before .loop in
-    let join-row = c .before .join-row in
-    turns-more (row-lowers version1 version1-coherent (s .args .n) (s .args .y)) (loop .inv) (omega arith) (join-row .ensures)
-
-same-length : tie.Need-same-length Inv-loop μ-loop
+same-length : tie.Need-same-length
 same-length c = search needs
 
-returns : tie.Need-returns Inv-loop μ-loop
+returns : tie.Need-returns
 unfolding joinMiddle
 returns c =
-    let loop = c .before .loop in
-    turns-all (loop .inv) (omega arith)
+    let s = c .before .before .before .before .before .before .before .before .before in
+    let join-rows = c .before .before .before .before .before .before .before .join-rows in
+    let join-row = c .before .before .before .before .join-row in
+    let join-rows2 = c .before .join-rows2 in
+    and-after (row-lowers version1 version1-coherent (s .args .n) (s .args .y)) (s .pre .0) (s .pre .2) (join-rows .ensures) (join-row .ensures) (join-rows2 .ensures)
 
 pub join-middle-spec : {M : Type 1} → statement M
 join-middle-spec =
-    tie.close
-    (tie.spec
-    Inv-loop
-    μ-loop
-    loop-holds
-    join-row-requires
-    add-x
-    loop-less
-    loop-again
-    same-length
-    returns)
+    tie.close (tie.spec join-rows-requires join-row-requires add-join-rows join-rows-requires-2 same-length returns)

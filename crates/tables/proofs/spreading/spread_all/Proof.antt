@@ -1,65 +1,46 @@
--- `spreading::spread_all` meets its contract: a turn for each row. Assumes nothing.
+-- `spreading::spread_all` meets its contract: the rows before that of b, its own, and those after it. Assumes nothing.
 use borrow.Author.Needs.{needs}
-use Prim.Native.Nat.{_-_}
 use native.Mathlib.Omega.{arith}
-use Rattle.rules.proofs.Demands.{version1-coherent}
 use Rattle.rules.specs.Plan.{version1}
+use Rattle.rules.proofs.Demands.{version1-coherent}
 use Rattle.cell.specs.Steps.{cell32}
-use Rattle.tables.specs.Spread.{spreadRow, spreadAll}
-use Rattle.tables.proofs.Turns.{Turns, turns-none, turns-more, turns-all}
+use Rattle.tables.specs.Spread.{spreadAll}
+use Rattle.tables.proofs.Turns.{before-sound, here-sound, and-after}
 use Rattle.tables.proofs.Spreads.{spread-row-lowers}
 use Rattle.tables.proofs.spreading.spread_all.Statement.{statement}
 use Rattle.tables.proofs.spreading.spread_all.Tie as tie
 
-abbrev Inv-loop : tie.InvT-loop
-Inv-loop t₀ n a b w x₀ t x = Turns version1 n n (spreadRow version1 n a b (cell32 (w .v))) x t₀ t
+spread-rows-requires : tie.Need-spread-rows-requires
+spread-rows-requires c κs = search needs
 
-abbrev μ-loop : tie.MeasureT-loop
-μ-loop t₀ n a b w x₀ t x = n - x
-
-loop-holds : tie.Need-loop-holds Inv-loop μ-loop
-loop-holds c =
-    let s = c in
-    turns-none (s .pre .3)
-
-spread-row-requires : tie.Need-spread-row-requires Inv-loop μ-loop
+spread-row-requires : tie.Need-spread-row-requires
 spread-row-requires c κs =
-    let s = c .before .before .before in
-    let loop = c .before .before .loop in
-    (omega arith, s .pre .0, s .pre .1, s .pre .2, loop .inv .lowered .sound, s .pre .4)
+    let s = c .before .before .before .before in
+    let spread-rows = c .before .before .spread-rows in
+    (s .pre .1, s .pre .0, s .pre .1, s .pre .2, before-sound (spread-row-lowers version1 version1-coherent (s .args .n) (s .args .a) (s .args .b) (cell32 (s .args .w .v))) (s .pre .1) (s .pre .3) (spread-rows .ensures), s .pre .4)
 
-add-x : tie.Need-add-x Inv-loop μ-loop
-add-x c = search needs
+add-spread-rows : tie.Need-add-spread-rows
+add-spread-rows c = search needs
 
-loop-less : tie.Need-loop-less Inv-loop μ-loop
-loop-less c = search needs
+spread-rows-requires-2 : tie.Need-spread-rows-requires-2
+spread-rows-requires-2 c κs =
+    let s = c .before .before .before .before .before .before .before in
+    let spread-rows = c .before .before .before .before .before .spread-rows in
+    let spread-row = c .before .before .spread-row in
+    (s .pre .0, s .pre .1, s .pre .2, omega arith, omega arith, here-sound (spread-row-lowers version1 version1-coherent (s .args .n) (s .args .a) (s .args .b) (cell32 (s .args .w .v))) (s .pre .1) (s .pre .3) (spread-rows .ensures) (spread-row .ensures), s .pre .4)
 
-loop-again : tie.Need-loop-again Inv-loop μ-loop
-loop-again c =
-    let s = c .before .before .before .before .before in
-    let loop = c .before .before .before .before .loop in
-    let spread-row = c .before .spread-row in
-    turns-more (spread-row-lowers version1 version1-coherent (s .args .n) (s .args .a) (s .args .b) (cell32 (s .args .w .v))) (loop .inv) (omega arith) (spread-row .ensures)
-
-same-length : tie.Need-same-length Inv-loop μ-loop
+same-length : tie.Need-same-length
 same-length c = search needs
 
-returns : tie.Need-returns Inv-loop μ-loop
+returns : tie.Need-returns
 unfolding spreadAll
 returns c =
-    let loop = c .before .loop in
-    turns-all (loop .inv) (omega arith)
+    let s = c .before .before .before .before .before .before .before .before .before in
+    let spread-rows = c .before .before .before .before .before .before .before .spread-rows in
+    let spread-row = c .before .before .before .before .spread-row in
+    let spread-rows2 = c .before .spread-rows2 in
+    and-after (spread-row-lowers version1 version1-coherent (s .args .n) (s .args .a) (s .args .b) (cell32 (s .args .w .v))) (s .pre .1) (s .pre .3) (spread-rows .ensures) (spread-row .ensures) (spread-rows2 .ensures)
 
 pub spread-all-spec : {M : Type 1} → statement M
 spread-all-spec =
-    tie.close
-    (tie.spec
-    Inv-loop
-    μ-loop
-    loop-holds
-    spread-row-requires
-    add-x
-    loop-less
-    loop-again
-    same-length
-    returns)
+    tie.close (tie.spec spread-rows-requires spread-row-requires add-spread-rows spread-rows-requires-2 same-length returns)
