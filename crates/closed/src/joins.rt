@@ -8,7 +8,8 @@ ghost use Rattle.closed.specs.Parts.{RowJoined, MiddleJoined, AllJoined}
 use crate::bounds::at_most;
 use tables::get;
 
-// Row x by the middle y, with the cell x to y taken out of the loop. Where there is no path to the middle, nothing is asked.
+// Row x by the middle y, with the cell x to y taken out of the loop. Where there is no path to the middle, nothing is asked. Every cell of the row is looked at, so
+// that a compiler may take several at once.
 fn row_joined(t: &[i32], n: usize, y: usize, x: usize) -> bool
     requires { ⌜ (x < n) × (y < n) × (n ≤ 64) × Sound version1 n (now t) ⌝ }
     ensures { λ r. ⌜ Decides r (RowJoined n (tableOf version1 n (now (t .entry))) y x) ⌝ }
@@ -17,15 +18,16 @@ fn row_joined(t: &[i32], n: usize, y: usize, x: usize) -> bool
     if a.is_mark() {
         return true;
     }
+    let mut held = true;
     let mut z = 0;
     while z < n {
         let c = get(t, n, y, z);
         if !at_most(t, n, x, z, a.add(c)) {
-            return false;
+            held = false;
         }
         z += 1;
     }
-    true
+    held
 }
 
 // Every row by the middle y.

@@ -1,5 +1,6 @@
 -- `joins::row_joined` meets its contract: nothing is asked of a row with no path to the middle, else a turn for each cell. Assumes nothing.
 use mathlib.Core.Path.{sym, _∙_}
+use mathlib.Core.Logic.{⊎-elim}
 use borrow.Author.Needs.{needs}
 use Prim.Native.Nat.{_-_}
 use native.Mathlib.Omega.{arith}
@@ -9,15 +10,16 @@ use Rattle.cell.specs.Steps.{Decides}
 use Rattle.cell.proofs.Laws.{is-mark, decided-yes}
 use Rattle.tables.proofs.Turns.{read-stored, read-cell}
 use Rattle.closed.proofs.Exceeds.{row-at-mark, decides-sum}
-use Rattle.closed.proofs.Loops.{Passed, none-yet, one-more, one-failed, all-passed}
+use Rattle.closed.proofs.Loops.{Tried, none-tried, tried-more, tried-failed, all-tried}
 use Rattle.closed.proofs.joins.row_joined.Statement.{statement}
 use Rattle.closed.proofs.joins.row_joined.Tie as tie
 
 abbrev Inv-loop : tie.InvT-loop
-Inv-loop t n y x a z₀ z = Passed n (λ z. tableOf version1 n t x z ≤ᶜ (tableOf version1 n t x y +ᶜ tableOf version1 n t y z)) z
+Inv-loop t n y x a held₀ z₀ held z =
+    Tried n (λ z. tableOf version1 n t x z ≤ᶜ (tableOf version1 n t x y +ᶜ tableOf version1 n t y z)) z held
 
 abbrev μ-loop : tie.MeasureT-loop
-μ-loop t n y x a z₀ z = n - z
+μ-loop t n y x a held₀ z₀ held z = n - z
 
 get-requires : tie.Need-get-requires Inv-loop μ-loop
 get-requires c κs = search needs
@@ -35,7 +37,7 @@ returns c =
     (sym (read-cell version1 (s .args .n) (s .args .x) (s .args .y) (s .args .t .now) (get .result .v) (get .ensures)) ∙ cell))
 
 loop-holds : tie.Need-loop-holds Inv-loop μ-loop
-loop-holds c = none-yet _ _
+loop-holds c = none-tried _ _
 
 get-requires-2 : tie.Need-get-requires-2 Inv-loop μ-loop
 get-requires-2 c κs = search needs
@@ -66,11 +68,6 @@ sum-decided c =
     (c .before .before .get2 .result .v) (c .before .add .result .v) (get .ensures) (c .before .before .get2 .ensures) (c .before .add .ensures)
     (c .at-most .ensures)
 
-returns-2 : tie.Need-returns-2 Inv-loop μ-loop
-returns-2 c =
-    let loop = c .before .before .before .before .before .loop in
-    one-failed _ _ (loop .z) (omega arith) (sum-decided (c .before)) (c .if2 .taken)
-
 add-z : tie.Need-add-z Inv-loop μ-loop
 add-z c = search needs
 
@@ -80,10 +77,11 @@ loop-less c = search needs
 loop-again : tie.Need-loop-again Inv-loop μ-loop
 loop-again c =
     let loop = c .before .before .before .before .before .loop in
-    one-more _ _ (loop .z) (loop .inv) (omega arith) (sum-decided (c .before)) (c .if2 .left)
+    ⊎-elim (λ q. rw (q .1) (tried-failed _ _ (loop .z) (loop .inv) (omega arith) (sum-decided (c .before)) (q .0 .taken)))
+    (λ q. rw (q .1) (tried-more _ _ (loop .z) (loop .inv) (omega arith) (sum-decided (c .before)) (q .0 .left))) (c .if2 .came)
 
-returns-3 : tie.Need-returns-3 Inv-loop μ-loop
-returns-3 c = all-passed _ _ (c .before .loop .z) (c .before .loop .inv) (omega arith)
+returns-2 : tie.Need-returns-2 Inv-loop μ-loop
+returns-2 c = all-tried _ _ (c .before .loop .z) (c .before .loop .inv) (omega arith)
 
 pub row-joined-spec : {M : Type 1} → statement M
 row-joined-spec =
@@ -98,8 +96,7 @@ row-joined-spec =
     get-requires-2
     add-requires
     at-most-requires
-    returns-2
     add-z
     loop-less
     loop-again
-    returns-3)
+    returns-2)
