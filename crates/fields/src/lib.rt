@@ -1,6 +1,7 @@
 // A field of a lent file: a 32-bit number, its lowest byte first, at any position.
 ghost use mathlib.Core.Path.{_≡_};
-ghost use Prim.Native.Nat.{_+_};
+ghost use Prim.Native.Nat.{_+_, _≤_};
+ghost use lib.ListN.{length};
 ghost use Rattle.fields.specs.Bytes.{byteAt, wordOf, wordAt, signedOf, signedAt};
 
 // The byte i places after a position; past the end it counts as 0.
@@ -35,10 +36,24 @@ fn signed(w: u32) -> i32
     }
 }
 
-// The unsigned field at a position.
+// The unsigned field at a position from which on the file has its four bytes.
+fn word_within(file: &[u8], at: usize) -> u32
+    requires { ⌜ at + 4 ≤ length (now file) ⌝ }
+    ensures { λ r. ⌜ r ≡ wordAt (now (file .entry)) at ⌝ }
+{
+    word(file[at], file[at + 1], file[at + 2], file[at + 3])
+}
+
+// The unsigned field at a position. Where the file has all of it, which one test of its length tells, no byte is tested by itself.
 pub fn unsigned_at(file: &[u8], at: usize) -> u32
     ensures { λ r. ⌜ r ≡ wordAt (now (file .entry)) at ⌝ }
 {
+    let size = file.len();
+    if at < size {
+        if 4 <= size - at {
+            return word_within(file, at);
+        }
+    }
     word(
         byte_at(file, at, 0),
         byte_at(file, at, 1),
