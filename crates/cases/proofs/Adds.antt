@@ -5,7 +5,7 @@ use mathlib.Core.List.{List, []}
 use Prim.Native.Nat.{ℕ, zero, _-_, _≤_}
 use native.Mathlib.Nat.{mul-le-mul-left, le-trans}
 use native.Mathlib.Omega.{arith}
-use lib.ListN.{length, getD, List·getD-eq-default}
+use lib.ListN.{length, List·getD-eq-default}
 use lib.IntN.{ℤ, pos}
 use Rattle.rules.specs.declared.Answer.the-variants.{Done, NotControllable}
 use Rattle.rules.specs.Plan.{Limit, Plan, version1}

@@ -3,7 +3,7 @@
 use mathlib.Core.Path.{_≡_, refl, sym, subst₂}
 use mathlib.Core.Bool.{Bool, true, false, _&&_, true≢false}
 use mathlib.Core.List.{List, [], _∷_}
-use Prim.Native.Nat.{ℕ, zero, _<_}
+use Prim.Native.Nat.{zero}
 use lib.Dec.{eqb, eqb→eq}
 use lib.ListN.{length, getD}
 use lib.IntN.{ℤ, pos, negℤ}

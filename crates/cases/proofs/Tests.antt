@@ -1,6 +1,6 @@
 -- Tests that compute: of every number below m, of two lists, of a table's fairness, of a plan's ranges. Each with what it says. Assumes nothing.
 use mathlib.Core.Path.{_≡_, refl, sym, ap, ap₂}
-use mathlib.Core.Bool.{Bool, true, false, cond, _&&_, true≢false}
+use mathlib.Core.Bool.{Bool, true, false, _&&_, true≢false}
 use mathlib.Core.List.{List, [], _∷_, List·Memᴰ, List·Memᴰ·cases-cons, List·Memᴰ·not-nil}
 use mathlib.Core.Logic.{_⊎_, inl, inr, ⊎-elim}
 use Prim.Native.Nat.{ℕ, zero, suc, _≤_, _<_}
@@ -8,8 +8,7 @@ use native.Mathlib.Nat.{eq-or-lt-of-le, le-of-suc-le-suc, not-suc-le-zero}
 use native.Mathlib.Omega.{arith}
 use lib.Dec.{T, leb, eqb, eqb→eq, leb→le}
 use lib.IntN.{ℤ, pos, negsuc, negℤ}
-use lib.Signed.{leZ, _≤ℤ_, _<ℤ_, leZ-yes}
-use Rattle.whole.proofs.Order.{ints}
+use lib.Signed.{leZ, _<ℤ_, leZ-yes}
 use Rattle.whole.proofs.Bits.{signed}
 use Rattle.rules.specs.Plan.{Limit, Link, Plan, Ranges, LimitInRange, LinkInRange}
 use Rattle.rules.specs.Cells.{Cell, mark, num, _≤ᶜ_, Within, tableOf}

@@ -1,5 +1,5 @@
 -- The first demand holds. Assumes nothing.
-use mathlib.Core.Path.{_≡_, refl, ap}
+use mathlib.Core.Path.{_≡_, refl}
 use mathlib.Core.Logic.{_≢_, _⊎_, inl, inr, ⊎-elim}
 use mathlib.Core.List.{List}
 use Prim.Native.Nat.{ℕ, zero, _*_, _≤_}
@@ -7,7 +7,7 @@ use native.Mathlib.Omega.{arith}
 use lib.IntN.{ℤ, pos}
 use Rattle.rules.specs.declared.Answer.{Answer}
 use Rattle.rules.specs.declared.Answer.the-variants.{Done, FewBytes, BadVersion, BadPoints, BadCounts, BadLayout, BadLimit, BadLink, RepeatedLink, ShortRoom, HasLinks, NotControllable, NotClosed}
-use Rattle.rules.specs.Plan.{Limit, Plan, version1, InRange, LimitInRange}
+use Rattle.rules.specs.Plan.{Limit, version1, InRange}
 use Rattle.rules.specs.Answers.{codeOf}
 use Rattle.rules.specs.Calls.{Kept, Filled, Judged, Checked, Timed, Added}
 use Rattle.rules.proofs.OneAnswer.{judged-once, checked-once, timed-once, added-once}

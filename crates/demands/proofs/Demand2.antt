@@ -1,6 +1,6 @@
 -- The second demand holds. Assumes nothing.
-use mathlib.Core.Path.{_≡_, refl, sym, _∙_}
-use mathlib.Core.Logic.{_≢_, _⊎_, inl, inr, _↔_, ⊎-elim}
+use mathlib.Core.Path.{_≡_, refl, sym}
+use mathlib.Core.Logic.{_⊎_, inl, inr, _↔_}
 use mathlib.Core.List.{List}
 use Prim.Native.Nat.{ℕ}
 use native.Mathlib.Omega.{arith}
@@ -10,13 +10,12 @@ use Rattle.rules.specs.declared.Answer.the-variants.{Done, ShortRoom, NotContro
 use Rattle.rules.specs.Plan.{Plan, version1, InRange}
 use Rattle.rules.specs.Walks.{Uncontrollable}
 use Rattle.rules.specs.Cells.{tableOf}
-use Rattle.rules.specs.Tables.{Tables, Closed}
-use Rattle.rules.specs.Calls.{ShortTables, RoomForTables, Written, Judged, Checked}
+use Rattle.rules.specs.Tables.{Closed}
+use Rattle.rules.specs.Calls.{RoomForTables, Written, Judged, Checked}
 use Rattle.rules.specs.Demands.{Demand2OfPlans}
 use Rattle.rules.proofs.Demands.{version1-coherent, demand2-of-plans}
 use Rattle.rules.proofs.OneAnswer.{short-or-room}
 use Rattle.plan.specs.Layout.{planOf}
-use Rattle.plan.specs.File.{fileAnswer}
 use Rattle.plan.proofs.Good.{good}
 use Rattle.demands.specs.Demand2.{Demand2}
 

@@ -1,11 +1,11 @@
 -- The third demand holds: a desk's work is a sequence of additions to the plan's tables, of which the theory knows all that is demanded.
 -- Assumes nothing.
-use mathlib.Core.Path.{_≡_, refl, sym, ap, subst, _∙_}
-use mathlib.Core.Logic.{_≢_, _⊎_, inl, inr, ⊎-elim}
-use mathlib.Core.List.{List, [], _∷_, _++_, List·Memᴰ, List·Memᴰ·not-nil, List·Memᴰ·cases-cons, Memᴰ·append-right}
-use Prim.Native.Nat.{ℕ, zero, _*_, _≤_, _<_}
+use mathlib.Core.Path.{_≡_, refl, sym, ap, subst}
+use mathlib.Core.Logic.{_≢_, ⊎-elim}
+use mathlib.Core.List.{List, _∷_, List·Memᴰ, Memᴰ·append-right}
+use Prim.Native.Nat.{ℕ, zero, _*_, _<_}
 use native.Mathlib.Omega.{arith}
-use lib.ListN.{length, getD}
+use lib.ListN.{getD}
 use lib.IntN.{ℤ, pos}
 use Rattle.whole.proofs.Place.{Spot, spot}
 use Rattle.rules.specs.declared.Answer.{Answer}
@@ -15,15 +15,15 @@ use Rattle.rules.specs.Answers.{codeOf}
 use Rattle.rules.specs.Edges as edges
 use Rattle.rules.specs.Edges.{Given}
 use Rattle.rules.specs.Walks.{Uncontrollable}
-use Rattle.rules.specs.Cells.{Table, cellOf, tableOf}
+use Rattle.rules.specs.Cells.{Table, tableOf}
 use Rattle.rules.specs.Tables.{Tables, Closed}
 use Rattle.rules.specs.Additions.{withCells, withLimits, Additions}
 use Rattle.rules.specs.Additions as additions
 use Rattle.rules.specs.Calls.{Kept, RoomForTables, Written, Beyond, Judged, Added}
-use Rattle.rules.specs.Demands.{AllIn, Demand2OfPlans, Demand3OfPlans}
-use Rattle.rules.proofs.Demands.{version1-coherent, demand2-of-plans, demand3-of-plans}
+use Rattle.rules.specs.Demands.{AllIn, Demand3OfPlans}
+use Rattle.rules.proofs.Demands.{version1-coherent, demand3-of-plans}
 use Rattle.rules.proofs.Points.{Pointed, in-range-pointed}
-use Rattle.rules.proofs.Domination.{Dominates, tables-move, uncontrollable-dominated}
+use Rattle.rules.proofs.Domination.{tables-move}
 use Rattle.rules.proofs.Justified.{SameTables, tables-unique, tables-controllable}
 use Rattle.rules.proofs.CellLimits.{includes, cells-pointed}
 use Rattle.rules.proofs.Additions.{AllInRange, taken-in-range, refused-in-range, more-pointed, more-weighted, sequence-tables, reach-holds}
@@ -34,7 +34,7 @@ use Rattle.plan.specs.File.{fileAnswer, addAnswer}
 use Rattle.plan.proofs.Good.{good, add-exactly}
 use Rattle.demands.specs.Demand3.{Desk, judged, taken, refused, nothing, OneFile, Demand3}
 use Rattle.demands.proofs.Codes.{FileCode, add-code}
-use Rattle.demands.proofs.Demand2.{JudgedDone, judged-done, not-done-refused, not-done-unclosed, not-short-done, demand2}
+use Rattle.demands.proofs.Demand2.{judged-done, not-done-refused, not-done-unclosed, not-short-done, demand2}
 
 plans : Demand3OfPlans version1
 plans = demand3-of-plans version1 version1-coherent

@@ -1,7 +1,7 @@
 -- Earliest's times are the earliest timetable. Assumes nothing.
 use mathlib.Core.Path.{_≡_, refl, sym, ap, _∙_}
 use mathlib.Core.List.{List, []}
-use Prim.Native.Nat.{ℕ, zero, _<_}
+use Prim.Native.Nat.{ℕ, zero}
 use native.Mathlib.Omega.{arith}
 use lib.ListN.{getD}
 use lib.IntN.{ℤ, pos, negℤ, negℤ-negℤ}
@@ -11,7 +11,6 @@ use Rattle.rules.specs.Plan.{Plan, version1, InRange}
 use Rattle.rules.specs.Answers.{codeOf}
 use Rattle.rules.specs.Cells.{num, tableOf}
 use Rattle.rules.specs.Calls.{Written, TimesOf, Timed}
-use Rattle.rules.specs.Times.{EarliestTimes}
 use Rattle.rules.proofs.Points.{in-range-pointed}
 use Rattle.rules.proofs.OneAnswer.{start-number}
 use Rattle.rules.proofs.Times.{earliest-times}

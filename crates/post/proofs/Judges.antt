@@ -1,17 +1,17 @@
 -- Judge, answer by answer: from what its calls ensure to its statement. Assumes nothing.
 use mathlib.Core.Path.{_≡_, refl, sym, ap, subst, subst⁻¹, _∙_}
 use mathlib.Core.Bool.{Bool, true, false, not, true≢false}
-use mathlib.Core.Logic.{_≢_, _⊎_, inl, inr}
+use mathlib.Core.Logic.{_≢_, inl, inr}
 use mathlib.Core.List.{List}
-use Prim.Native.Nat.{ℕ, zero, _*_, _≤_, _<_}
+use Prim.Native.Nat.{ℕ, _*_, _≤_, _<_}
 use native.Mathlib.Omega.{arith}
 use lib.Dec.{eqb}
-use lib.ListN.{length, getD}
+use lib.ListN.{length}
 use lib.IntN.{ℤ, pos}
 use Rattle.rules.specs.Plan.{version1}
 use Rattle.rules.specs.Answers.{codeOf}
 use Rattle.rules.specs.Calls as calls
-use Rattle.rules.specs.Calls.{Kept, Filled, Marked, RoomForTables, Written, Judged}
+use Rattle.rules.specs.Calls.{Kept, Filled, RoomForTables, Written, Judged}
 use Rattle.rules.specs.declared.Answer.{Answer}
 use Rattle.rules.specs.declared.Answer.the-variants.{Done, ShortRoom, NotControllable}
 use Rattle.answers.proofs.Codes.{code-zero}

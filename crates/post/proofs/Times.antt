@@ -1,8 +1,8 @@
 -- Earliest, answer by answer: from what its calls ensure to its statement. Assumes nothing.
-use mathlib.Core.Path.{_≡_, refl, sym, ap, subst, subst⁻¹, _∙_}
-use mathlib.Core.Logic.{_≢_, _⊎_, inl, inr}
+use mathlib.Core.Path.{_≡_, refl, sym, ap, subst, _∙_}
+use mathlib.Core.Logic.{_≢_, inl, inr}
 use mathlib.Core.List.{List, [], _∷_}
-use Prim.Native.Nat.{ℕ, zero, _*_, _≤_, _<_}
+use Prim.Native.Nat.{ℕ, _*_, _≤_, _<_}
 use native.Mathlib.Omega.{arith}
 use lib.ListN.{length}
 use lib.IntN.{ℤ}
@@ -17,8 +17,7 @@ use Rattle.rules.proofs.Demands.{version1-coherent, demand2-of-plans}
 use Rattle.plan.specs.declared.Header.{Header}
 use Rattle.plan.specs.Layout.{headOf, planOf}
 use Rattle.plan.specs.File.{fileAnswer}
-use Rattle.plan.proofs.Good.{points-is, links-length, good}
-use Rattle.cell.specs.Steps.{Stored}
+use Rattle.plan.proofs.Good.{points-is, links-length}
 use Rattle.cell.proofs.Cells.{within-stored}
 use Rattle.tables.specs.Table.{Sound, Ready}
 use Rattle.tables.proofs.Ready.{ready-points, ready-in-range}

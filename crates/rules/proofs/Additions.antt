@@ -1,25 +1,23 @@
 -- Sequences of additions: the tables are always those of the plan with the limits taken; refusals stay refusals; nothing lies beyond the
 -- closed range. Assumes nothing.
-use mathlib.Core.Path.{_≡_, refl, sym, subst}
+use mathlib.Core.Path.{refl, sym, subst}
 use mathlib.Core.Logic.{_≢_, _⊎_, _↔_, ⊎-elim}
-use mathlib.Core.List.{List, [], _∷_, _++_, List·Memᴰ, List·Memᴰ·head, List·Memᴰ·tail, List·Memᴰ·not-nil, List·Memᴰ·cases-cons, List·Memᴰ·append-cases, Memᴰ·append-left, Memᴰ·append-right}
-use Prim.Native.Nat.{ℕ, _*_, _-_, _≤_, _<_}
+use mathlib.Core.List.{List, [], _∷_, List·Memᴰ, List·Memᴰ·head, List·Memᴰ·tail, List·Memᴰ·not-nil, List·Memᴰ·cases-cons, List·Memᴰ·append-cases, Memᴰ·append-left, Memᴰ·append-right}
+use Prim.Native.Nat.{ℕ, _*_, _-_, _≤_}
 use native.Mathlib.Nat.{mul-le-mul-left, le-trans}
 use native.Mathlib.Omega.{arith}
-use lib.IntN.{ℤ, pos, negℤ}
-use lib.Signed.{_≤ℤ_}
-use Rattle.rules.specs.Plan.{Limit, Link, Plan, Ranges, Coherent, LimitInRange, InRange}
+use Rattle.rules.specs.Plan.{Limit, Plan, Ranges, Coherent, LimitInRange, InRange}
 use Rattle.rules.specs.Walks.{Uncontrollable}
-use Rattle.rules.specs.Cells.{Within, Table}
+use Rattle.rules.specs.Cells.{Table}
 use Rattle.rules.specs.Tables.{Tables}
 use Rattle.rules.specs.Additions.{withCells, withLimit, withLimits, Additions, opened, taken, refused}
 use Rattle.rules.specs.Calls.{Beyond}
 use Rattle.rules.specs.Demands.{AllIn}
-use Rattle.rules.proofs.Points.{Pointed, Weighted, in-range-pointed, in-range-weighted}
+use Rattle.rules.proofs.Points.{Pointed, Weighted, in-range-weighted}
 use Rattle.rules.proofs.Domination.{Dominates, tables-move, uncontrollable-dominated}
 use Rattle.rules.proofs.Justified.{tables-controllable}
 use Rattle.rules.proofs.Settled.{wider, strict-reach, open-reach}
-use Rattle.rules.proofs.CellLimits.{includes, dominates-trans, limit-dominates-cells, cells-dominate-limit}
+use Rattle.rules.proofs.CellLimits.{includes, limit-dominates-cells, cells-dominate-limit}
 
 -- ---- limits in range
 

@@ -2,13 +2,12 @@
 -- exist only for a plan that is not uncontrollable. Assumes nothing.
 use mathlib.Core.Path.{_≡_, _∙_, sym, subst}
 use Prim.Native.Nat.{ℕ, zero, _<_}
-use lib.IntN.{ℤ, pos, _+ℤ_}
+use lib.IntN.{ℤ, pos}
 use lib.Signed.{_≤ℤ_, _<ℤ_, ≤ℤ-refl, clashℤ}
-use Rattle.whole.proofs.Order.{ints}
 use Rattle.rules.specs.Plan.{Plan, Ranges}
 use Rattle.rules.specs.Edges.{Derivable, given, join, lower, upper, Open, ordinary, lower-case}
 use Rattle.rules.specs.Walks.{Walk, stay, step, Uncontrollable}
-use Rattle.rules.specs.Cells.{Cell, num, Table}
+use Rattle.rules.specs.Cells.{Table}
 use Rattle.rules.specs.Tables.{Closed}
 use Rattle.rules.proofs.Cells.{AtMost, at-most, under, sum, lowered-at-most, uppered-at-most, same-number}
 use Rattle.rules.proofs.Points.{Pointed, derivable-ends, open-ends}

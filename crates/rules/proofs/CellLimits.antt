@@ -1,10 +1,10 @@
 -- Cells as limits: the limits made of a table's cells are those cells, and a plan with one limit more and the plan of its strict cells with that
 -- limit dominate each other. Assumes nothing.
 use mathlib.Core.Path.{_≡_, refl, sym, ap, subst, _∙_}
-use mathlib.Core.Logic.{_≢_, _⊎_, inl, inr, ⊎-elim}
-use mathlib.Core.Bool.{Bool, true, false, not, cond}
-use mathlib.Core.List.{List, [], _∷_, _++_, List·Memᴰ, List·Memᴰ·head, List·Memᴰ·tail, List·Memᴰ·not-nil, List·Memᴰ·cases-cons, List·Memᴰ·eq-of-singleton, List·Memᴰ·append-cases, Memᴰ·append-left, Memᴰ·append-right}
-use Prim.Native.Nat.{ℕ, zero, suc, _≤_, _<_}
+use mathlib.Core.Logic.{_≢_, ⊎-elim}
+use mathlib.Core.Bool.{Bool, true, false, cond}
+use mathlib.Core.List.{[], _++_, List·Memᴰ, List·Memᴰ·head, List·Memᴰ·tail, List·Memᴰ·not-nil, List·Memᴰ·cases-cons, List·Memᴰ·eq-of-singleton, List·Memᴰ·append-cases, Memᴰ·append-left, Memᴰ·append-right}
+use Prim.Native.Nat.{ℕ, zero, suc, _<_}
 use native.Mathlib.Nat.{not-suc-le-zero}
 use native.Mathlib.Omega.{arith}
 use native.Mathlib.Decide.{ℕ-discrete}
@@ -14,14 +14,14 @@ use lib.Signed.{_≤ℤ_}
 use Rattle.rules.specs.Plan.{Limit, Link, Plan}
 use Rattle.rules.specs.Edges as edges
 use Rattle.rules.specs.Edges.{Given, limit, start, longest, shortest, Derivable}
-use Rattle.rules.specs.Walks.{Walk, stay, Uncontrollable}
-use Rattle.rules.specs.Cells.{Cell, mark, num, _≤ᶜ_, Table}
+use Rattle.rules.specs.Walks.{Walk, stay}
+use Rattle.rules.specs.Cells.{Cell, mark, num, Table}
 use Rattle.rules.specs.Tables.{Least, Tables}
 use Rattle.rules.specs.Additions.{cellLimit, rowLimits, tableLimits, withCells, withLimit}
 use Rattle.rules.proofs.Cells.{AtMost, at-most, same-number}
-use Rattle.rules.proofs.Walks.{single, replaced, Dominated, exactly, weaker}
-use Rattle.rules.proofs.Points.{Pointed, Ends, given-ends}
-use Rattle.rules.proofs.Domination.{Dominates, derivable-dominated, walk-dominated, tables-move, uncontrollable-dominated}
+use Rattle.rules.proofs.Walks.{single, Dominated, exactly, weaker}
+use Rattle.rules.proofs.Points.{Pointed}
+use Rattle.rules.proofs.Domination.{Dominates, walk-dominated}
 use Rattle.rules.proofs.Settled.{least-below, least-diagonal}
 
 -- ---- the limits of a table

@@ -1,14 +1,14 @@
 -- Laws of cells: a cell that is at most a number, the order with the mark on top, and what Lower and Upper yield.
 -- Assumes nothing.
-use mathlib.Core.Path.{_≡_, refl, subst, sym, _∙_}
+use mathlib.Core.Path.{_≡_, refl, subst, sym}
 use mathlib.Core.Bool.{Bool, true, false, cond}
-use Prim.Native.Nat.{ℕ, zero}
+use Prim.Native.Nat.{ℕ}
 use native.Mathlib.Omega.{arith}
 use lib.Dec.{T}
 use lib.IntN.{ℤ, pos, negℤ, _+ℤ_, _-ℤ_}
-use lib.Signed.{ltZ, _≤ℤ_, _<ℤ_, ≤ℤ-refl, ltZ-yes}
+use lib.Signed.{ltZ, _≤ℤ_, _<ℤ_, ≤ℤ-refl}
 use Rattle.whole.specs.Signed.{larger}
-use Rattle.whole.proofs.Order.{ints, plus, by-lt, plus-mono, ≤ℤ-antisym}
+use Rattle.whole.proofs.Order.{ints, plus-mono}
 use Rattle.whole.proofs.Larger.{larger-mono}
 use Rattle.rules.specs.Plan.{Link}
 use Rattle.rules.specs.Edges.{spread, upper-weight}

@@ -5,17 +5,17 @@ use mathlib.Core.Path.{_≡_, refl, sym, subst, subst₂, _∙_}
 use mathlib.Core.List.{List·Memᴰ}
 use Prim.Native.Nat.{ℕ, zero, _<_}
 use lib.IntN.{ℤ, pos, negℤ, _+ℤ_, _-ℤ_, +ℤ-idr}
-use lib.Signed.{_≤ℤ_, _<ℤ_, ≤ℤ-refl}
+use lib.Signed.{_≤ℤ_, ≤ℤ-refl}
 use Rattle.whole.proofs.Order.{ints, plus-mono, ≤ℤ-trans}
 use Rattle.whole.proofs.Larger.{larger-right}
 use Rattle.rules.specs.Plan.{Link, Plan}
 use Rattle.rules.specs.Edges as edges
-use Rattle.rules.specs.Edges.{Given, shortest, Derivable, Open, spread, Lowers, upper-weight}
+use Rattle.rules.specs.Edges.{Given, shortest, Derivable, Open, Lowers, upper-weight}
 use Rattle.rules.specs.Walks.{Walk, stay, step, Uncontrollable}
 use Rattle.rules.specs.Cells.{Cell, mark, num, Table}
 use Rattle.rules.specs.Tables.{Least, Tables}
 use Rattle.rules.proofs.Cells.{upper-mono}
-use Rattle.rules.proofs.Walks.{single, replaced, Dominated, exactly, weaker, after, dominated}
+use Rattle.rules.proofs.Walks.{single, replaced, Dominated, exactly, after, dominated}
 
 -- a walk of derivable edges is empty or one derivable edge
 pub data Collapsed (p : Plan) (x y : ℕ) (t : ℤ) : Type 0 where

@@ -1,12 +1,12 @@
 -- Expansion: every derivable edge is a walk of basic edges with the same total, and a basic edge weighs at least -B where B bounds the
 -- plan's weights, since Upper never yields less than -l. Assumes nothing.
 use mathlib.Core.List.{List·Memᴰ}
-use Prim.Native.Nat.{ℕ, _≤_}
+use Prim.Native.Nat.{ℕ}
 use lib.IntN.{ℤ, pos, negℤ, _-ℤ_}
 use lib.Signed.{_≤ℤ_}
 use Rattle.whole.proofs.Order.{ints, neg}
 use Rattle.whole.proofs.Larger.{larger-right}
-use Rattle.rules.specs.Plan.{Limit, Link, Plan}
+use Rattle.rules.specs.Plan.{Link, Plan}
 use Rattle.rules.specs.Edges as edges
 use Rattle.rules.specs.Edges.{Given, limit, start, longest, shortest, Derivable, Open, upper-weight}
 use Rattle.rules.specs.Walks.{Walk, step}

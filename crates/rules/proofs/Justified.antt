@@ -1,10 +1,10 @@
 -- Justified tables: every cell that is not the mark has a walk of total at most the cell. Justified and closed tables are the plan's
 -- tables, least totals are unique, and a plan with tables is not uncontrollable. Assumes nothing.
-use mathlib.Core.Path.{_≡_, refl, sym, ap, subst}
+use mathlib.Core.Path.{_≡_, refl, ap, subst}
 use Prim.Native.Nat.{ℕ, zero, _<_}
 use lib.IntN.{ℤ, pos, _+ℤ_}
-use lib.Signed.{_≤ℤ_, _<ℤ_, clashℤ}
-use Rattle.whole.proofs.Order.{ints, plus, ≤ℤ-antisym, ≤ℤ-trans}
+use lib.Signed.{_≤ℤ_, _<ℤ_}
+use Rattle.whole.proofs.Order.{ints, plus, ≤ℤ-antisym}
 use Rattle.rules.specs.Plan.{Plan, Ranges}
 use Rattle.rules.specs.Edges.{Derivable, Open}
 use Rattle.rules.specs.Walks.{Walk, stay, Uncontrollable}

@@ -1,12 +1,12 @@
 -- One answer: two answers that meet a call's statement are equal, in code, place and every lent cell. The plan is in range where the file is sound.
 -- Assumes nothing.
 use mathlib.Core.Path.{_≡_, refl, sym, subst, _∙_}
-use mathlib.Core.Logic.{_≢_, _⊎_, inl, inr, ⊎-elim}
-use mathlib.Core.List.{List, []}
-use Prim.Native.Nat.{ℕ, zero, _*_, _≤_, _<_}
+use mathlib.Core.Logic.{_⊎_, inl, inr, ⊎-elim}
+use mathlib.Core.List.{List}
+use Prim.Native.Nat.{ℕ, zero, _≤_, _<_}
 use native.Mathlib.Omega.{arith}
-use lib.ListN.{length, getD}
-use lib.IntN.{ℤ, pos, negℤ}
+use lib.ListN.{length}
+use lib.IntN.{ℤ, pos}
 use Rattle.rules.specs.declared.Answer.{Answer}
 use Rattle.rules.specs.declared.Answer.the-variants.{Done}
 use Rattle.rules.specs.Plan.{Limit, Plan, Ranges, LimitInRange, InRange}
@@ -14,9 +14,9 @@ use Rattle.rules.specs.Edges as edges
 use Rattle.rules.specs.Edges.{Derivable}
 use Rattle.rules.specs.Cells.{Cell, mark, num, Within, Table, tableOf}
 use Rattle.rules.specs.Walks.{Uncontrollable}
-use Rattle.rules.specs.Tables.{Least, Tables, Closed}
+use Rattle.rules.specs.Tables.{Least, Tables}
 use Rattle.rules.specs.Additions.{withCells}
-use Rattle.rules.specs.Calls.{cellsOf, Kept, Filled, ShortTables, RoomForTables, Marked, Written, Judged, Checked, Timed, TimesOf, scratchOf, Beyond, Added}
+use Rattle.rules.specs.Calls.{ShortTables, RoomForTables, Written, Judged, Checked, Timed, TimesOf, scratchOf, Beyond, Added}
 use Rattle.rules.proofs.Walks.{single}
 use Rattle.rules.proofs.Points.{Pointed, in-range-pointed}
 use Rattle.rules.proofs.Justified.{SameTables, tables-unique, tables-controllable}

@@ -7,7 +7,7 @@ use native.Mathlib.Nat.{mul-le-mul-left}
 use native.Mathlib.Omega.{arith}
 use lib.ListN.{length}
 use lib.IntN.{ℤ, pos, negℤ, _+ℤ_, +ℤ-idl}
-use lib.Signed.{_≤ℤ_, _<ℤ_, ≤ℤ-refl, clashℤ}
+use lib.Signed.{_≤ℤ_, ≤ℤ-refl, clashℤ}
 use Rattle.whole.proofs.Order.{ints, neg}
 use Rattle.rules.specs.Plan.{Plan}
 use Rattle.rules.specs.Edges as edges

@@ -6,7 +6,7 @@ use mathlib.Core.Bool.{Bool, true, false, cond}
 use mathlib.Core.List.{List·Memᴰ}
 use Prim.Native.Nat.{ℕ, zero, _*_, _-_, _≤_, _<_}
 use lib.IntN.{ℤ, pos, negℤ, _+ℤ_}
-use lib.Signed.{ltZ, _≤ℤ_, _<ℤ_, ltZ-yes}
+use lib.Signed.{ltZ, _≤ℤ_, ltZ-yes}
 use Rattle.whole.proofs.Order.{ints, neg, ≤ℤ-trans, ≤ℤ-antisym, split}
 use Rattle.rules.specs.Plan.{Plan, Ranges, Link}
 use Rattle.rules.specs.Edges as edges

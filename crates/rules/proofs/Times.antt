@@ -1,5 +1,5 @@
 -- Minus the strict cells to the start are the earliest timetable of a plan without links. Assumes nothing.
-use mathlib.Core.Path.{_≡_, refl, sym, ap, subst, _∙_}
+use mathlib.Core.Path.{_≡_, subst}
 use mathlib.Core.List.{List, [], List·Memᴰ, List·Memᴰ·not-nil}
 use Prim.Native.Nat.{ℕ, zero, _<_}
 use lib.IntN.{ℤ, pos, negℤ, _+ℤ_}
@@ -7,14 +7,14 @@ use lib.Signed.{_≤ℤ_}
 use Rattle.whole.proofs.Order.{ints, plus, neg}
 use Rattle.rules.specs.Plan.{Limit, Link, Plan}
 use Rattle.rules.specs.Edges as edges
-use Rattle.rules.specs.Edges.{Given, Derivable}
+use Rattle.rules.specs.Edges.{Derivable}
 use Rattle.rules.specs.Walks.{Walk, stay, step}
-use Rattle.rules.specs.Cells.{Cell, num, _≤ᶜ_, Table}
+use Rattle.rules.specs.Cells.{num, Table}
 use Rattle.rules.specs.Tables.{Least, Tables}
 use Rattle.rules.specs.Times.{Timetable, Meets, EarliestTimes}
 use Rattle.rules.proofs.Walks.{single}
 use Rattle.rules.proofs.Points.{Pointed}
-use Rattle.rules.proofs.Settled.{least-below, least-diagonal}
+use Rattle.rules.proofs.Settled.{least-diagonal}
 use Rattle.rules.proofs.Cells.{same-number}
 
 module _ (p : Plan) (none : p .links ≡ []) where

@@ -1,10 +1,10 @@
 -- Walks put together: one edge, one walk after another, edges replaced by walks, and walks of no larger total.
 -- Assumes nothing.
-use mathlib.Core.Path.{_≡_, refl, subst}
-use Prim.Native.Nat.{ℕ, zero}
-use lib.IntN.{ℤ, pos, _+ℤ_, +ℤ-idl, +ℤ-idr, +ℤ-assoc}
+use mathlib.Core.Path.{subst}
+use Prim.Native.Nat.{ℕ}
+use lib.IntN.{ℤ, _+ℤ_, +ℤ-idl, +ℤ-idr, +ℤ-assoc}
 use lib.Signed.{_≤ℤ_, ≤ℤ-refl}
-use Rattle.whole.proofs.Order.{ints, ≤ℤ-trans, plus-mono}
+use Rattle.whole.proofs.Order.{≤ℤ-trans, plus-mono}
 use Rattle.rules.specs.Walks.{Walk, stay, step}
 
 -- one edge is a walk

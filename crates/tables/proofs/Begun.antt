@@ -1,10 +1,10 @@
 -- Where the rounds begin: the strict table of the given edges after one pass of joins, and the open one, a copy of it with every lower-case edge taken.
 -- Over any coherent ranges. Assumes nothing.
-use mathlib.Core.Path.{_≡_, sym, ap, subst, _∙_}
+use mathlib.Core.Path.{_≡_, ap, subst, _∙_}
 use mathlib.Core.List.{List}
 use Prim.Native.Nat.{ℕ, zero, _+_, _*_, _≤_, _<_}
 use native.Mathlib.Omega.{arith}
-use lib.ListN.{length, getD}
+use lib.ListN.{length}
 use lib.IntN.{ℤ, pos}
 use Rattle.whole.proofs.Place.{inside}
 use Rattle.rules.specs.Plan.{Limit, Link, Plan, Ranges, Coherent}
@@ -12,10 +12,9 @@ use Rattle.rules.specs.Edges as edges
 use Rattle.rules.specs.Edges.{Given, Derivable, Open}
 use Rattle.rules.specs.Cells.{Cell, mark, num, _≤ᶜ_, cellOf, tableOf}
 use Rattle.rules.specs.Calls.{Kept}
-use Rattle.rules.proofs.Cells.{AtMost}
-use Rattle.rules.proofs.Walks.{single, replaced, Dominated}
+use Rattle.rules.proofs.Walks.{single, replaced}
 use Rattle.rules.proofs.Points.{Pointed, Weighted, Ends, given-ends}
-use Rattle.cell.specs.Steps.{clamped, Stored}
+use Rattle.cell.specs.Steps.{clamped}
 use Rattle.cell.proofs.Cells.{≤ᶜ-trans, ≤ᶜ-antisym}
 use Rattle.tables.specs.Table.{Sound}
 use Rattle.tables.specs.Fair.{Fair}

@@ -1,30 +1,26 @@
 -- Where the sweeps stand from the first tables on, and how they end: with the plan's tables where a sweep changes nothing and both tables are fair, and with
 -- the plan uncontrollable where one is not. Assumes nothing.
-use mathlib.Core.Path.{_≡_, refl, subst, _∙_}
+use mathlib.Core.Path.{_≡_, subst, _∙_}
 use mathlib.Core.List.{List}
 use Prim.Native.Nat.{ℕ, zero, _*_, _≤_, _<_}
-use native.Mathlib.Omega.{arith}
-use lib.ListN.{length, getD}
-use lib.IntN.{ℤ, pos, negℤ}
-use lib.Signed.{_≤ℤ_, _<ℤ_}
+use lib.ListN.{length}
+use lib.IntN.{ℤ, pos}
 use Rattle.rules.specs.Plan.{Limit, Link, Plan, Ranges, Coherent}
 use Rattle.rules.specs.Edges as edges
 use Rattle.rules.specs.Edges.{Given, Derivable, Open}
 use Rattle.rules.specs.Walks.{Uncontrollable}
-use Rattle.rules.specs.Cells.{Cell, mark, num, _≤ᶜ_, Within, tableOf}
+use Rattle.rules.specs.Cells.{num, _≤ᶜ_, tableOf}
 use Rattle.rules.specs.Tables.{Tables}
 use Rattle.rules.specs.Calls.{Kept}
-use Rattle.rules.proofs.Walks.{Dominated}
 use Rattle.rules.proofs.Points.{Pointed, Weighted, Ends, given-ends}
 use Rattle.rules.proofs.Justified.{negative-diagonal}
 use Rattle.tables.specs.Sweep.{markAll, diagonalAll, limitAll, startAll, linkAll, firstStrict, firstOpen, sweepStrict, sweepOpen}
 use Rattle.tables.specs.Fair.{Fair, Unfair, low, negative}
 use Rattle.cell.proofs.Cells.{≤ᶜ-trans, ≤ᶜ-antisym}
-use Rattle.tables.specs.Table.{Sound}
 use Rattle.tables.proofs.Lowering.{Lowered, lowered-trans}
 use Rattle.tables.proofs.Steps.{strict-lowers, open-sweep-lowers}
 use Rattle.tables.proofs.Walked.{Has, has-open, Walked, strict-walked, open-sweep-walked}
-use Rattle.tables.proofs.Settled.{Still, AllLinks, low-uncontrollable, still-tables}
+use Rattle.tables.proofs.Settled.{AllLinks, low-uncontrollable, still-tables}
 use Rattle.tables.proofs.First.{AllMark, marks, marks-walked, AllLimits, diagonal-walked, diagonal-lowered, diagonal-below, start-walked, start-lowered, start-below, limit-walked, limit-lowered, limit-below, link-walked, link-lowered, longest-below, shortest-below}
 
 -- both tables have their walks, the strict one is under every given edge, and neither diagonal is above 0

@@ -15,7 +15,7 @@ use Rattle.rules.specs.Plan.{Ranges, Coherent}
 use Rattle.rules.specs.Cells.{Cell, mark, num, _+ᶜ_, _≤ᶜ_, Within, tableOf}
 use Rattle.rules.proofs.Cells.{AtMost, at-most, by-at-most, same-number, mark-no-number}
 use Rattle.cell.specs.Steps.{belowᶜ, smallerᶜ, Stored, clamped}
-use Rattle.cell.proofs.Cells.{≤ᶜ-refl, ≤ᶜ-trans, ≤ᶜ-antisym, ≤ᶜ-mark, +ᶜ-mono, below-le, not-below-le, le-not-below, smaller-is, smaller-left, smaller-right}
+use Rattle.cell.proofs.Cells.{≤ᶜ-refl, ≤ᶜ-trans, ≤ᶜ-antisym, ≤ᶜ-mark, +ᶜ-mono, not-below-le, le-not-below, smaller-left, smaller-right}
 use Rattle.tables.specs.Table.{Sound}
 use Rattle.tables.specs.Fair.{Fair}
 use Rattle.tables.specs.Sweep.{iter, lowerCell, joinCell}
@@ -23,7 +23,6 @@ use Rattle.tables.specs.Spread.{rowBy, spreadRow, spreadAll, takeEdge, n
 use Rattle.tables.proofs.Numbers.{Clamping, above, below, inside, clamping}
 use Rattle.tables.proofs.Lowering.{Lowered, after-lowering, cell-lowered}
 use Rattle.tables.proofs.Settled.{exact}
-use Rattle.tables.proofs.Spreads.{row-by-lowered, spread-lowered, edge-lowered}
 
 -- a joined table: its diagonal is 0, and no cell exceeds the sum of two along a middle point
 pub record Shut (r : Ranges) (n : ℕ) (t : List ℤ) : Type 0 where

@@ -1,7 +1,7 @@
 -- What is stored of a number, by cases, and what the smaller of two cells keeps. Assumes nothing.
 use mathlib.Core.Path.{_≡_, refl}
 use mathlib.Core.Bool.{Bool, true, false, cond}
-use Prim.Native.Nat.{ℕ, _<_}
+use Prim.Native.Nat.{ℕ}
 use native.Mathlib.Omega.{arith}
 use lib.IntN.{ℤ, pos, negsuc, negℤ}
 use lib.Signed.{ltZ, _≤ℤ_, _<ℤ_, ltZ-yes, ltZ-no}

@@ -1,13 +1,12 @@
 -- What a sound file with its counts gives the sweep and the closed test, without looking at bytes again. Assumes nothing.
-use mathlib.Core.Path.{_≡_, refl, sym, subst, _∙_}
+use mathlib.Core.Path.{_≡_, sym, subst, _∙_}
 use mathlib.Core.List.{List, List·Memᴰ}
 use Prim.Native.Nat.{ℕ, _≤_, _<_}
 use native.Mathlib.Omega.{arith}
-use Rattle.rules.specs.Plan.{Limit, Link, Plan, version1, InRange, LimitInRange, LinkInRange}
+use Rattle.rules.specs.Plan.{version1, InRange, LimitInRange, LinkInRange}
 use Rattle.rules.proofs.Points.{Pointed, Weighted, in-range-pointed, in-range-weighted}
-use Rattle.plan.specs.Layout.{headOf, limitAt, linkAt, planOf}
-use Rattle.plan.proofs.Good.{Good, good}
-use Rattle.plan.proofs.Records.{Listed}
+use Rattle.plan.specs.Layout.{limitAt, linkAt, planOf}
+use Rattle.plan.proofs.Good.{good}
 use Rattle.tables.specs.Table.{Ready}
 use Rattle.tables.proofs.Settled.{AllLinks}
 use Rattle.tables.proofs.First.{AllLimits}

@@ -1,21 +1,21 @@
 -- What rounds of Lower and Upper carry from one to the next, of joined tables: every cell has its walk, every pair that a walk joins has a cell in reach, and a fair table
 -- is joined. And how they end: where a round leaves the strict table as it was and both are fair, they are the plan's tables. Over any coherent ranges. Assumes nothing.
-use mathlib.Core.Path.{_≡_, refl, sym, ap, subst, subst₂, _∙_}
+use mathlib.Core.Path.{_≡_, refl, sym, subst, subst₂}
 use mathlib.Core.Bool.{Bool, true, false, cond}
 use mathlib.Core.Logic.{_≢_, ⊎-elim}
 use mathlib.Core.List.{List, List·Memᴰ}
-use Prim.Native.Nat.{ℕ, zero, suc, _≤_, _<_}
+use Prim.Native.Nat.{ℕ, zero, suc, _<_}
 use native.Mathlib.Nat.{not-suc-le-zero, eq-or-lt-of-le, le-of-suc-le-suc}
 use native.Mathlib.Omega.{arith}
 use lib.Dec.{T, eqb, eqb→eq, eqb-refl}
 use lib.IntN.{ℤ, pos, _+ℤ_}
-use lib.Signed.{_≤ℤ_, ≤ℤ-refl}
+use lib.Signed.{≤ℤ-refl}
 use Rattle.rules.specs.Plan.{Link, Plan, Ranges, Coherent}
 use Rattle.rules.specs.Edges as edges
 use Rattle.rules.specs.Edges.{Given, Derivable, Open}
 use Rattle.rules.specs.Walks.{Walk, stay, step}
-use Rattle.rules.specs.Cells.{Cell, mark, num, _+ᶜ_, _≤ᶜ_, lowered, uppered, tableOf}
-use Rattle.rules.specs.Tables.{Tables, Closed}
+use Rattle.rules.specs.Cells.{Cell, mark, num, _≤ᶜ_, lowered, uppered, tableOf}
+use Rattle.rules.specs.Tables.{Tables}
 use Rattle.rules.proofs.Cells.{AtMost, at-most, by-at-most, under, sum, raised, lowered-at-most, uppered-at-most}
 use Rattle.rules.proofs.Walks.{single, append, Dominated, exactly}
 use Rattle.rules.proofs.Points.{Pointed, Ends, given-ends, derivable-ends}
@@ -23,14 +23,13 @@ use Rattle.rules.proofs.Justified.{justified-closed}
 use Rattle.rules.proofs.Settled.{as-open}
 use Rattle.cell.specs.Steps.{clamped}
 use Rattle.cell.proofs.Cells.{≤ᶜ-trans, ≤ᶜ-mark, clamped-within}
-use Rattle.tables.specs.Table.{Sound}
 use Rattle.tables.specs.Fair.{Fair}
 use Rattle.tables.specs.Sweep.{iter}
 use Rattle.tables.specs.Spread.{newEdge, lowerEdge, lowerEdges, lowerRound, upperEdge, upperEdges, upperRound, strictRound, caseEdge, caseEdges, followLower, followLowers, followUpper, followUppers, followLink, openRound}
-use Rattle.tables.proofs.Lowering.{Lowered, Lowers, iter-lowered, iter-fixed, iter-keeps, both-fixed}
+use Rattle.tables.proofs.Lowering.{Lowered, Lowers, iter-fixed, iter-keeps, both-fixed}
 use Rattle.tables.proofs.Walked.{Has, has-lowered, has-uppered, has-open, Walked, PlanLinks}
 use Rattle.tables.proofs.Settled.{exact, AllLinks}
-use Rattle.tables.proofs.Spreads.{edge-walked, edge-lowered, lower-edge-lowers, lower-edges-lowers, lower-round-lowered, upper-edge-lowers, upper-edges-lowered, upper-edges-lowers, upper-round-lowered, case-edge-lowers, follow-lower-lowers, follow-lowers-lowers, follow-link-lowers, follow-upper-lowers, follow-uppers-lowered, strict-round-lowered, open-round-lowered}
+use Rattle.tables.proofs.Spreads.{edge-walked, edge-lowered, lower-edge-lowers, lower-edges-lowers, lower-round-lowered, upper-edge-lowers, upper-edges-lowers, upper-round-lowered, case-edge-lowers, follow-lower-lowers, follow-link-lowers, follow-upper-lowers, follow-uppers-lowered, strict-round-lowered, open-round-lowered}
 use Rattle.tables.proofs.Joined.{Shut, fair-before, edge-shut, edge-under}
 
 -- a table over a family of edges, as rounds carry it

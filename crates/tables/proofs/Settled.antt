@@ -4,34 +4,32 @@
 use mathlib.Core.Path.{_≡_, refl, subst, subst₂}
 use mathlib.Core.Logic.{_≢_, ⊎-elim}
 use mathlib.Core.List.{List, _∷_, List·Memᴰ}
-use Prim.Native.Nat.{ℕ, zero, suc, _+_, _*_, _-_, _≤_, _<_}
+use Prim.Native.Nat.{ℕ, zero, suc, _*_, _-_, _≤_, _<_}
 use native.Mathlib.Nat.{mul-le-mul-left, le-trans}
 use native.Mathlib.Omega.{arith}
 use lib.ListN.{length}
 use lib.IntN.{ℤ, pos, negsuc, negℤ, _+ℤ_}
 use lib.Signed.{_≤ℤ_, _<ℤ_, ≤ℤ-refl}
-use Rattle.whole.proofs.Order.{ints, plus, neg}
+use Rattle.whole.proofs.Order.{ints, neg}
 use Rattle.rules.specs.Plan.{Link, Plan, Ranges, Coherent}
 use Rattle.rules.specs.Edges as edges
 use Rattle.rules.specs.Edges.{Given, Derivable, Open}
 use Rattle.rules.specs.Walks.{Walk, Uncontrollable}
 use Rattle.rules.specs.Cells.{Cell, mark, num, _+ᶜ_, _≤ᶜ_, lowered, uppered, Within, tableOf}
 use Rattle.rules.specs.Tables.{Tables, Closed}
-use Rattle.rules.proofs.Cells.{AtMost, at-most, under, sum, raised, by-at-most, same-number}
+use Rattle.rules.proofs.Cells.{AtMost, at-most, under, sum, raised, by-at-most}
 use Rattle.rules.proofs.Walks.{single, Dominated, exactly}
-use Rattle.rules.proofs.Points.{Pointed, Weighted, Ends, given-ends}
+use Rattle.rules.proofs.Points.{Pointed, Weighted, given-ends}
 use Rattle.rules.proofs.Expansion.{basic-least, basic-given}
 use Rattle.rules.proofs.Shortening.{Trail, stop, go, trail-least, trail-most}
 use Rattle.rules.proofs.Reach.{GivenTrail, given-trail, given-most, floor}
-use Rattle.rules.proofs.Justified.{Justified, justified-closed, negative-diagonal}
+use Rattle.rules.proofs.Justified.{justified-closed}
 use Rattle.rules.proofs.Settled.{top, as-open}
 use Rattle.cell.specs.Steps.{clamped}
 use Rattle.tables.specs.Sweep.{lowerAll, upperAll, caseAll, sweepStrict, sweepOpen}
-use Rattle.cell.proofs.Cells.{≤ᶜ-trans}
 use Rattle.tables.proofs.Numbers.{Clamping, above, below, inside, clamping}
-use Rattle.tables.specs.Table.{Sound}
 use Rattle.tables.proofs.Steps.{LinkPoints, joins-fixed, lower-fixed, upper-fixed, open-fixed, case-fixed, strict-fixed, open-sweep-fixed}
-use Rattle.tables.proofs.Walked.{Has, has-sum, has-lowered, has-uppered, has-open, Walked, PlanLinks}
+use Rattle.tables.proofs.Walked.{Has, has-sum, has-lowered, has-uppered, Walked, PlanLinks}
 
 -- ---- what is stored, and what was meant
 

@@ -1,23 +1,19 @@
 -- Each step of spreading lowers, and keeps the walk of every cell. Over any coherent ranges. Assumes nothing.
-use mathlib.Core.Path.{_≡_, refl, subst}
 use mathlib.Core.Bool.{Bool, true, false, cond}
-use mathlib.Core.Logic.{_≢_}
-use mathlib.Core.List.{List, List·Memᴰ}
+use mathlib.Core.List.{List}
 use Prim.Native.Nat.{ℕ, zero, _<_}
-use lib.Dec.{T, eqb, eqb-refl}
+use lib.Dec.{eqb}
 use lib.IntN.{ℤ, pos}
-use Rattle.rules.specs.Plan.{Link, Plan, Ranges, Coherent}
+use Rattle.rules.specs.Plan.{Link, Ranges, Coherent}
 use Rattle.rules.specs.Edges as edges
-use Rattle.rules.specs.Edges.{Derivable, Open}
 use Rattle.rules.specs.Cells.{Cell, num, _+ᶜ_, lowered, uppered, tableOf}
-use Rattle.rules.proofs.Walks.{single, exactly}
 use Rattle.cell.specs.Steps.{belowᶜ, clamped}
 use Rattle.tables.specs.Table.{Sound}
-use Rattle.tables.specs.Sweep.{joinCell, lowerCell}
+use Rattle.tables.specs.Sweep.{joinCell}
 use Rattle.tables.specs.Spread.{rowBy, spreadRow, spreadAll, takeEdge, newEdge, lowerEdge, lowerEdges, lowerRound, upperEdge, upperEdges, upperRound, strictRound, caseEdge, caseEdges, followLower, followLowers, followUpper, followUppers, followLink, openRound}
 use Rattle.tables.proofs.Lowering.{Lowered, Lowers, lowered-refl, lowered-trans, cell-lowered, iter-lowered, iter-keeps}
 use Rattle.tables.proofs.Steps.{LinkPoints, cell-lowers}
-use Rattle.tables.proofs.Walked.{Has, has-sum, has-stored, has-lowered, has-uppered, has-open, Walked, cell-walked, PlanLinks}
+use Rattle.tables.proofs.Walked.{Has, has-sum, has-stored, Walked, cell-walked}
 
 -- what both sides of a test keep
 pub by-test : (P : List ℤ → Type 0) (b : Bool) {t u : List ℤ} → P t → P u → P (cond b t u)

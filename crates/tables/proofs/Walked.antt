@@ -1,24 +1,23 @@
 -- Every cell that is not the mark keeps a walk of total at most the cell: through one lowering, and through each part of a sweep. Assumes nothing.
-use mathlib.Core.Path.{_≡_, refl, sym, subst}
+use mathlib.Core.Path.{_≡_, refl, subst}
 use mathlib.Core.Bool.{Bool, true, false, cond}
 use mathlib.Core.Logic.{_≢_}
 use mathlib.Core.List.{List, List·Memᴰ}
-use Prim.Native.Nat.{ℕ, zero, suc, _<_}
+use Prim.Native.Nat.{ℕ, _<_}
 use lib.Dec.{T, eqb, eqb-refl}
-use lib.IntN.{ℤ, pos, negsuc, _+ℤ_}
-use lib.Signed.{ltZ, _≤ℤ_, _<ℤ_, ltZ-yes}
-use Rattle.whole.proofs.Order.{ints}
+use lib.IntN.{ℤ, pos, _+ℤ_}
+use lib.Signed.{ltZ, ltZ-yes}
 use Rattle.rules.specs.Plan.{Link, Plan, Ranges, Coherent}
 use Rattle.rules.specs.Edges as edges
 use Rattle.rules.specs.Edges.{Derivable, Open, spread}
 use Rattle.rules.specs.Cells.{Cell, mark, num, _+ᶜ_, lowered, uppered, tableOf}
 use Rattle.rules.proofs.Walks.{single, replaced, Dominated, exactly, weaker, after}
 use Rattle.rules.proofs.Domination.{lower-walk, upper-walk}
-use Rattle.cell.specs.Steps.{smallerᶜ, clamped}
-use Rattle.tables.specs.Sweep.{iter, lowerCell, joinCell, joinRow, joinMiddle, joinAll, lowerPair, lowerLink, lowerAll, upperCell, upperPoint, upperAll, openCell, openRow, openAll, caseLink, caseAll, sweepStrict, sweepOpen}
+use Rattle.cell.specs.Steps.{clamped}
+use Rattle.tables.specs.Sweep.{lowerCell, joinCell, joinRow, joinMiddle, joinAll, lowerPair, lowerLink, lowerAll, upperCell, upperPoint, upperAll, openCell, openRow, openAll, caseLink, caseAll, sweepStrict, sweepOpen}
 use Rattle.tables.proofs.Numbers.{Clamping, above, below, inside, clamping, smaller-keeps}
 use Rattle.tables.specs.Table.{Sound}
-use Rattle.tables.proofs.Lowering.{Lowered, cell-lowered, lowering-keeps, iter-keeps}
+use Rattle.tables.proofs.Lowering.{cell-lowered, lowering-keeps, iter-keeps}
 use Rattle.tables.proofs.Steps.{LinkPoints}
 
 -- the cell is the mark, or has a walk of total at most the cell

@@ -4,8 +4,8 @@ use mathlib.Core.Path.{_≡_, refl}
 use mathlib.Core.Bool.{Bool, true, false, cond}
 use mathlib.Core.Logic.{_⊎_, inl, inr, ⊎-elim}
 use lib.IntN.{ℤ}
-use lib.Signed.{ltZ, _≤ℤ_, _<ℤ_, ≤ℤ-refl, ltZ-yes, ltZ-no}
-use Rattle.whole.specs.Signed.{up, dn, larger}
+use lib.Signed.{ltZ, _≤ℤ_, _<ℤ_, ltZ-yes, ltZ-no}
+use Rattle.whole.specs.Signed.{larger}
 use Rattle.whole.proofs.Order.{ints}
 
 -- it is the second where that is above the first, and else the first
