@@ -7,7 +7,8 @@ use Prim.Native.Nat.{ℕ, zero, suc, _*_, _<_}
 use native.Mathlib.Omega.{arith}
 use lib.ListN.{length, getD}
 use lib.IntN.{ℤ, pos}
-use Rattle.rules.specs.Plan.{Limit, Link, Plan, Ranges, Coherent}
+use Rattle.rules.specs.Plan.{Limit, Link, Plan, Ranges}
+use Rattle.rules.proofs.Coherence.{Coherent}
 use Rattle.rules.specs.Walks.{Uncontrollable}
 use Rattle.rules.specs.Cells.{tableOf}
 use Rattle.rules.specs.Tables.{Tables}

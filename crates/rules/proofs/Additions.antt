@@ -6,7 +6,8 @@ use mathlib.Core.List.{List, [], _∷_, List·Memᴰ, List·Memᴰ·head, List·
 use Prim.Native.Nat.{ℕ, _*_, _-_, _≤_}
 use native.Mathlib.Nat.{mul-le-mul-left, le-trans}
 use native.Mathlib.Omega.{arith}
-use Rattle.rules.specs.Plan.{Limit, Plan, Ranges, Coherent, LimitInRange, InRange}
+use Rattle.rules.specs.Plan.{Limit, Plan, Ranges, LimitInRange, InRange}
+use Rattle.rules.proofs.Coherence.{Coherent}
 use Rattle.rules.specs.Walks.{Uncontrollable}
 use Rattle.rules.specs.Cells.{Table}
 use Rattle.rules.specs.Tables.{Tables}

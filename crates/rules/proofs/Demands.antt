@@ -1,6 +1,7 @@
 -- The second and the third demand on plans hold for any coherent ranges, and the paper's numbers are coherent. Assumes nothing.
 use native.Mathlib.Omega.{arith}
-use Rattle.rules.specs.Plan.{Ranges, Coherent, version1}
+use Rattle.rules.specs.Plan.{Ranges, version1}
+use Rattle.rules.proofs.Coherence.{Coherent}
 use Rattle.rules.specs.Demands.{Demand2OfPlans, Demand3OfPlans}
 use Rattle.rules.proofs.Points.{in-range-pointed, in-range-weighted}
 use Rattle.rules.proofs.Bound.{closed-controllable}

@@ -1,4 +1,5 @@
 -- The theorems on the paper's definitions, each file on those above it.
+pub mod Coherence
 pub mod Cells
 pub mod Walks
 pub mod Points

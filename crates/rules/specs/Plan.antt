@@ -1,9 +1,8 @@
 -- Document 01, "Plan file": what a plan is, and the ranges it keeps to.
 -- Assumes nothing.
-use mathlib.Core.Path.{_≡_}
 use mathlib.Core.Logic.{_≢_}
 use mathlib.Core.List.{List, [], _∷_, List·Memᴰ}
-use Prim.Native.Nat.{ℕ, _+_, _*_, _-_, _≤_, _<_}
+use Prim.Native.Nat.{ℕ, _≤_, _<_}
 use lib.ListN.{length}
 use lib.IntN.{ℤ, pos, negℤ}
 use lib.Signed.{_≤ℤ_}
@@ -41,12 +40,6 @@ pub record Ranges : Type 0 where
 unfoldable pub version1 : Ranges
 version1 =
     record { points = 64; limits = 1_024; links = 32; weight = 1_000_000; mark = 2_147_483_647; reach = 63_000_000 }
-
--- numbers that go together: the closed range holds one weight and the longest walk's, and the mark is above every sum of two cells
-pub record Coherent (r : Ranges) : Type 0 where
-  pub holds-weight : r .weight ≤ r .reach
-  pub holds-walks : r .weight * (r .points - 1) ≤ r .reach
-  pub mark-above : r .reach + r .reach < r .mark
 
 -- "every point named is below n", "w from -1,000,000 to 1,000,000". "A limit may have X = Y".
 pub record LimitInRange (r : Ranges) (n : ℕ) (m : Limit) : Type 0 where

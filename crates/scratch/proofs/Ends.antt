@@ -11,7 +11,8 @@ use lib.IntN.{ℤ, pos}
 use lib.Signed.{_≤ℤ_, _<ℤ_}
 use Rattle.whole.proofs.Order.{ints, split}
 use Rattle.whole.proofs.Place.{inside, Spot, spot}
-use Rattle.rules.specs.Plan.{Limit, Link, Plan, Ranges, Coherent, version1, InRange, LimitInRange}
+use Rattle.rules.specs.Plan.{Limit, Link, Plan, Ranges, version1, InRange, LimitInRange}
+use Rattle.rules.proofs.Coherence.{Coherent}
 use Rattle.rules.specs.Walks.{Uncontrollable}
 use Rattle.rules.specs.Edges.{Derivable, Open}
 use Rattle.rules.specs.Cells.{num, Within, Table, tableOf}

@@ -13,7 +13,8 @@ use lib.IntN.{ℤ, pos, negℤ}
 use lib.Signed.{_≤ℤ_, ≤ℤ-refl}
 use Rattle.whole.proofs.Order.{ints, neg}
 use Rattle.whole.proofs.Place.{inside}
-use Rattle.rules.specs.Plan.{Limit, Link, Plan, Ranges, Coherent}
+use Rattle.rules.specs.Plan.{Limit, Link, Plan, Ranges}
+use Rattle.rules.proofs.Coherence.{Coherent}
 use Rattle.rules.specs.Edges as edges
 use Rattle.rules.specs.Edges.{Given}
 use Rattle.rules.specs.Walks.{stay}

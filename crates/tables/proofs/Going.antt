@@ -5,7 +5,8 @@ use mathlib.Core.List.{List}
 use Prim.Native.Nat.{ℕ, zero, _*_, _≤_, _<_}
 use lib.ListN.{length}
 use lib.IntN.{ℤ, pos}
-use Rattle.rules.specs.Plan.{Limit, Link, Plan, Ranges, Coherent}
+use Rattle.rules.specs.Plan.{Limit, Link, Plan, Ranges}
+use Rattle.rules.proofs.Coherence.{Coherent}
 use Rattle.rules.specs.Edges as edges
 use Rattle.rules.specs.Edges.{Given, Derivable, Open}
 use Rattle.rules.specs.Walks.{Uncontrollable}

@@ -11,7 +11,8 @@ use lib.Dec.{T, eqb, eqb→eq, eqb-refl}
 use lib.IntN.{ℤ, pos, negsuc, negℤ, _+ℤ_}
 use lib.Signed.{_≤ℤ_, _<ℤ_, ltZ-yes}
 use Rattle.whole.proofs.Order.{ints, plus, neg}
-use Rattle.rules.specs.Plan.{Ranges, Coherent}
+use Rattle.rules.specs.Plan.{Ranges}
+use Rattle.rules.proofs.Coherence.{Coherent}
 use Rattle.rules.specs.Cells.{Cell, mark, num, _+ᶜ_, _≤ᶜ_, Within, tableOf}
 use Rattle.rules.proofs.Cells.{AtMost, at-most, by-at-most, same-number, mark-no-number}
 use Rattle.cell.specs.Steps.{belowᶜ, smallerᶜ, Stored, clamped}

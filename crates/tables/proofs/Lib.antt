@@ -1,4 +1,4 @@
--- What a sweep keeps, proved on its functions of lists, with no code in sight; and the laws that the walks through the code cite.
+-- What sweeps and rounds keep, proved on their functions of lists, with no code in sight; and the laws that the walks through the code cite.
 pub mod Numbers
 pub mod Lowering
 pub mod Steps

@@ -10,7 +10,8 @@ use lib.ListN.{length, getD, length-set}
 use lib.Seq.{getD-set-other}
 use lib.IntN.{ℤ, pos}
 use Rattle.whole.proofs.Place.{inside, after-write}
-use Rattle.rules.specs.Plan.{Ranges, Coherent}
+use Rattle.rules.specs.Plan.{Ranges}
+use Rattle.rules.proofs.Coherence.{Coherent}
 use Rattle.rules.proofs.Lists.{same-list}
 use Rattle.rules.specs.Cells.{Cell, _≤ᶜ_, cellOf, tableOf}
 use Rattle.cell.specs.Steps.{smallerᶜ, Stored, clamped, numberOf}

@@ -6,7 +6,8 @@ use native.Mathlib.Omega.{arith}
 use lib.IntN.{ℤ, pos, negsuc, negℤ}
 use lib.Signed.{ltZ, _≤ℤ_, _<ℤ_, ltZ-yes, ltZ-no}
 use Rattle.whole.proofs.Order.{ints, neg}
-use Rattle.rules.specs.Plan.{Ranges, Coherent}
+use Rattle.rules.specs.Plan.{Ranges}
+use Rattle.rules.proofs.Coherence.{Coherent}
 use Rattle.rules.specs.Cells.{Cell, mark, num, cellOf}
 use Rattle.cell.specs.Steps.{smallerᶜ, Stored, clamped, numberOf}
 use Rattle.cell.proofs.Cells.{smaller-is, cell-back}

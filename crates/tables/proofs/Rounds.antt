@@ -10,7 +10,8 @@ use native.Mathlib.Omega.{arith}
 use lib.Dec.{T, eqb, eqb→eq, eqb-refl}
 use lib.IntN.{ℤ, pos, _+ℤ_}
 use lib.Signed.{≤ℤ-refl}
-use Rattle.rules.specs.Plan.{Link, Plan, Ranges, Coherent}
+use Rattle.rules.specs.Plan.{Link, Plan, Ranges}
+use Rattle.rules.proofs.Coherence.{Coherent}
 use Rattle.rules.specs.Edges as edges
 use Rattle.rules.specs.Edges.{Given, Derivable, Open}
 use Rattle.rules.specs.Walks.{Walk, stay, step}

@@ -11,7 +11,8 @@ use lib.ListN.{length}
 use lib.IntN.{ℤ, pos, negsuc, negℤ, _+ℤ_}
 use lib.Signed.{_≤ℤ_, _<ℤ_, ≤ℤ-refl}
 use Rattle.whole.proofs.Order.{ints, neg}
-use Rattle.rules.specs.Plan.{Link, Plan, Ranges, Coherent}
+use Rattle.rules.specs.Plan.{Link, Plan, Ranges}
+use Rattle.rules.proofs.Coherence.{Coherent}
 use Rattle.rules.specs.Edges as edges
 use Rattle.rules.specs.Edges.{Given, Derivable, Open}
 use Rattle.rules.specs.Walks.{Walk, Uncontrollable}

@@ -4,7 +4,8 @@ use mathlib.Core.List.{List}
 use Prim.Native.Nat.{ℕ, zero, _<_}
 use lib.Dec.{eqb}
 use lib.IntN.{ℤ, pos}
-use Rattle.rules.specs.Plan.{Link, Ranges, Coherent}
+use Rattle.rules.specs.Plan.{Link, Ranges}
+use Rattle.rules.proofs.Coherence.{Coherent}
 use Rattle.rules.specs.Edges as edges
 use Rattle.rules.specs.Cells.{Cell, num, _+ᶜ_, lowered, uppered, tableOf}
 use Rattle.cell.specs.Steps.{belowᶜ, clamped}

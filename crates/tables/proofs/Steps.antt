@@ -8,7 +8,8 @@ use Prim.Native.Nat.{ℕ, zero, _<_}
 use native.Mathlib.Omega.{arith}
 use lib.Dec.{eqb, eqb→eq}
 use lib.IntN.{ℤ, pos, negℤ}
-use Rattle.rules.specs.Plan.{Limit, Link, Ranges, Coherent}
+use Rattle.rules.specs.Plan.{Limit, Link, Ranges}
+use Rattle.rules.proofs.Coherence.{Coherent}
 use Rattle.rules.specs.Cells.{Cell, num, _+ᶜ_, _≤ᶜ_, lowered, uppered, tableOf}
 use Rattle.cell.specs.Steps.{clamped}
 use Rattle.tables.specs.Sweep.{lowerCell, joinCell, joinRow, joinMiddle, joinAll, lowerPair, lowerLink, lowerAll, upperCell, upperPoint, upperAll, openCell, openRow, openAll, caseLink, caseAll, sweepStrict, sweepOpen, limitCell, linkEdges}

@@ -7,7 +7,8 @@ use Prim.Native.Nat.{ℕ, _<_}
 use lib.Dec.{T, eqb, eqb-refl}
 use lib.IntN.{ℤ, pos, _+ℤ_}
 use lib.Signed.{ltZ, ltZ-yes}
-use Rattle.rules.specs.Plan.{Link, Plan, Ranges, Coherent}
+use Rattle.rules.specs.Plan.{Link, Plan, Ranges}
+use Rattle.rules.proofs.Coherence.{Coherent}
 use Rattle.rules.specs.Edges as edges
 use Rattle.rules.specs.Edges.{Derivable, Open, spread}
 use Rattle.rules.specs.Cells.{Cell, mark, num, _+ᶜ_, lowered, uppered, tableOf}

@@ -13,7 +13,8 @@ use lib.ListN.{length}
 use lib.IntN.{ℤ, pos, negsuc, _+ℤ_}
 use lib.Signed.{_≤ℤ_, ≤ℤ-refl, clashℤ}
 use Rattle.whole.proofs.Order.{ints, plus, neg, plus-mono}
-use Rattle.rules.specs.Plan.{Plan, Ranges, Coherent}
+use Rattle.rules.specs.Plan.{Plan, Ranges}
+use Rattle.rules.proofs.Coherence.{Coherent}
 use Rattle.rules.specs.Edges.{Given, Open}
 use Rattle.rules.specs.Walks.{Walk, stay, step, NegativeWalk}
 use Rattle.rules.specs.Cells.{Cell, mark, num, _+ᶜ_, _≤ᶜ_, Within, tableOf}

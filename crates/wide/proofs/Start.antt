@@ -10,7 +10,8 @@ use lib.ListN.{length}
 use lib.IntN.{ℤ, pos, negℤ}
 use lib.Signed.{_≤ℤ_, ≤ℤ-refl}
 use Rattle.whole.proofs.Order.{ints, neg}
-use Rattle.rules.specs.Plan.{Limit, Plan, Coherent, version1, LimitInRange, InRange}
+use Rattle.rules.specs.Plan.{Limit, Plan, version1, LimitInRange, InRange}
+use Rattle.rules.proofs.Coherence.{Coherent}
 use Rattle.rules.specs.Edges as edges
 use Rattle.rules.specs.Edges.{Given, Derivable, Open}
 use Rattle.rules.specs.Walks.{stay}
