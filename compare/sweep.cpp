@@ -239,7 +239,9 @@ struct SpreadTables : Tables<Cell> {
     given();
     std::copy_n(strict, n * n, open);
     for (std::size_t i = 0; i < view.k; ++i) spread(open, links[i].a, links[i].c, links[i].l);
-    for (last_sweeps = 1; !negative; ++last_sweeps) {
+    last_sweeps = 0;
+    while (!negative) {
+      ++last_sweeps;
       moved = false;
       strict_round();
       if (!moved) break;
