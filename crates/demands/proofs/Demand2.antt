@@ -17,6 +17,7 @@ use Rattle.rules.proofs.Demands.{version1-coherent, demand2-of-plans}
 use Rattle.rules.proofs.OneAnswer.{short-or-room}
 use Rattle.plan.specs.Layout.{planOf}
 use Rattle.plan.proofs.Good.{good}
+use Rattle.demands.specs.Programs.{ourJudge, ourCheck}
 use Rattle.demands.specs.Demand2.{Demand2}
 
 -- the same on plans
@@ -93,7 +94,7 @@ written-room r t =
       open-room = omega (arith, r .open-room, t .open-kept .length-same);
     }
 
-pub demand2 : Demand2
+pub demand2 : Demand2 ourJudge ourCheck
 demand2 =
     record {
       judge-decides = λ s strict weak a strict′ weak′ e r j. decided (good s e .ranges) e r j .two;

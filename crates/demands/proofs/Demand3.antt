@@ -2,14 +2,14 @@
 -- Assumes nothing.
 use mathlib.Core.Path.{_≡_, refl, sym, ap, subst}
 use mathlib.Core.Logic.{_≢_, ⊎-elim}
-use mathlib.Core.List.{List, _∷_, List·Memᴰ, Memᴰ·append-right}
-use Prim.Native.Nat.{ℕ, zero, _*_, _<_}
+use mathlib.Core.List.{List, [], _∷_, List·Memᴰ, List·Memᴰ·head, List·Memᴰ·tail, List·Memᴰ·not-nil, Memᴰ·append-right}
+use Prim.Native.Nat.{ℕ, zero, _*_, _≤_, _<_}
 use native.Mathlib.Omega.{arith}
-use lib.ListN.{getD}
+use lib.ListN.{length, getD}
 use lib.IntN.{ℤ, pos}
 use Rattle.whole.proofs.Place.{Spot, spot}
 use Rattle.rules.specs.declared.Answer.{Answer}
-use Rattle.rules.specs.declared.Answer.the-variants.{Done, ShortRoom, NotControllable, NotClosed}
+use Rattle.rules.specs.declared.Answer.the-variants.{Done, NotControllable, NotClosed}
 use Rattle.rules.specs.Plan.{Limit, Link, Plan, version1, InRange, LimitInRange}
 use Rattle.rules.specs.Answers.{codeOf}
 use Rattle.rules.specs.Edges as edges
@@ -19,7 +19,7 @@ use Rattle.rules.specs.Cells.{Table, tableOf}
 use Rattle.rules.specs.Tables.{Tables, Closed}
 use Rattle.rules.specs.Additions.{withCells, withLimits, Additions}
 use Rattle.rules.specs.Additions as additions
-use Rattle.rules.specs.Calls.{Kept, RoomForTables, Written, Beyond, Judged, Added}
+use Rattle.rules.specs.Calls.{scratchOf, Kept, RoomForTables, Written, Beyond, Added}
 use Rattle.rules.specs.Demands.{AllIn, Demand3OfPlans}
 use Rattle.rules.proofs.Demands.{version1-coherent, demand3-of-plans}
 use Rattle.rules.proofs.Points.{Pointed, in-range-pointed}
@@ -29,10 +29,12 @@ use Rattle.rules.proofs.CellLimits.{includes, cells-pointed}
 use Rattle.rules.proofs.Additions.{AllInRange, taken-in-range, refused-in-range, more-pointed, more-weighted, sequence-tables, reach-holds}
 use Rattle.rules.proofs.Settled.{tables-closed}
 use Rattle.rules.proofs.Lists.{cell-injective}
+use Rattle.rules.proofs.OneAnswer.{short-or-room}
 use Rattle.plan.specs.Layout.{planOf}
 use Rattle.plan.specs.File.{fileAnswer, addAnswer}
 use Rattle.plan.proofs.Good.{good, add-exactly}
-use Rattle.demands.specs.Demand3.{Desk, judged, taken, refused, nothing, OneFile, Demand3}
+use Rattle.demands.specs.Programs.{ourJudge, ourAdd}
+use Rattle.demands.specs.Demand3.{Desk, judged, taken, refused, nothing, OneFile, OneFilesTables, WholeOrder, Demand3}
 use Rattle.demands.proofs.Codes.{FileCode, add-code}
 use Rattle.demands.proofs.Demand2.{judged-done, not-done-refused, not-done-unclosed, not-short-done, demand2}
 
@@ -98,7 +100,7 @@ room-kept : {p : Plan} {strict weak strict′ weak′ : List ℤ} → RoomForTab
 room-kept r a b =
     record { strict-room = omega (arith, r .strict-room, a .length-same); open-room = omega (arith, r .open-room, b .length-same) }
 
-pub stands : {s : List ℕ} {ts rs : List Limit} {strict weak : List ℤ} → Desk s ts rs strict weak → Stands s ts rs strict weak
+pub stands : {s : List ℕ} {ts rs : List Limit} {strict weak : List ℤ} → Desk ourJudge ourAdd s ts rs strict weak → Stands s ts rs strict weak
 stands {s} (judged j) =
     let d = judged-done j refl in
     record {
@@ -165,29 +167,29 @@ desk-closed s ts rs strict weak h =
 
 -- what is left of Add's answers once the file with the limit is sound and the room is there
 data AtDesk (p : Plan) (strict : Table) (m : Limit) (a : Answer) : Type 0 where
-  short : a ≡ ShortRoom → AtDesk p strict m a
   refusing : a ≡ NotControllable → Uncontrollable (withCells p strict m) → AtDesk p strict m a
   taking : {strict′ weak′ : Table} → a ≡ Done → Tables (withCells p strict m) strict′ weak′ → AtDesk p strict m a
   outside : {strict′ weak′ : Table} → a ≡ NotClosed → Tables (withCells p strict m) strict′ weak′ → Beyond version1 p strict′ weak′ → AtDesk p strict m a
 
 at-desk : {file : Answer} {p : Plan} {m : Limit} {strict weak scratch strict′ weak′ scratch′ : List ℤ} {a : Answer} → file ≡ Done
+    → RoomForTables p strict weak → scratchOf p ≤ length scratch
     → Closed version1 p (tableOf version1 (p .points) strict) (tableOf version1 (p .points) weak)
     → Added version1 file p m strict weak scratch a strict′ weak′ scratch′ → AtDesk p (tableOf version1 (p .points) strict) m a
-at-desk e c (Added.bad-file n) = absurd (n e)
-at-desk e c (Added.short-room k r) = short refl
-at-desk e c (Added.not-closed k r l n f) = absurd (n c)
-at-desk e c (Added.uncontrollable k r l q u f) = refusing refl u
-at-desk e c (Added.beyond k r l q t b f) = outside refl t b
-at-desk e c (Added.added k r l q t b f) = taking refl (t .tables)
+at-desk e o h c (Added.bad-file n) = absurd (n e)
+at-desk e o h c (Added.short-room k r) = ⊎-elim (λ t. short-or-room t o) (λ t. absurd (omega arith)) r
+at-desk e o h c (Added.not-closed k r l n f) = absurd (n c)
+at-desk e o h c (Added.uncontrollable k r l q u f) = refusing refl u
+at-desk e o h c (Added.beyond k r l q t b f) = outside refl t b
+at-desk e o h c (Added.added k r l q t b f) = taking refl (t .tables)
 
 -- ---- the demand
 
-each-taken : (s : List ℕ) (ts rs all : List Limit) (strict weak scratch : List ℤ) → Desk s ts rs strict weak → AllIn ts all
+each-taken : (s : List ℕ) (ts rs all : List Limit) (strict weak scratch : List ℤ) → Desk ourJudge ourAdd s ts rs strict weak → AllIn ts all
     → (Uncontrollable (withLimits (planOf s) all) → ⊥) → (m : Limit) → List·Memᴰ m all → LimitInRange version1 (planOf s .points) m
-    → (a : Answer) (strict′ weak′ scratch′ : List ℤ) → Added version1 (addAnswer s m) (planOf s) m strict weak scratch a strict′ weak′ scratch′
-    → a ≢ ShortRoom → a ≡ Done
-each-taken s ts rs all strict weak scratch d h c m k i a strict′ weak′ scratch′ x n =
-    by (at-desk (add-exactly s m .1 (st .sound, i)) (desk-closed s ts rs strict weak st) x)
+    → scratchOf (planOf s) ≤ length scratch
+    → (a : Answer) (strict′ weak′ scratch′ : List ℤ) → ourAdd s m strict weak scratch a strict′ weak′ scratch′ → a ≡ Done
+each-taken s ts rs all strict weak scratch d h c m k i o a strict′ weak′ scratch′ x =
+    by (at-desk (add-exactly s m .1 (st .sound, i)) (st .room) o (desk-closed s ts rs strict weak st) x)
   where
     st : Stands s ts rs strict weak
     st = stands d
@@ -196,7 +198,6 @@ each-taken s ts rs all strict weak scratch d h c m k i a strict′ weak′ scrat
     g = good s (st .sound) .ranges
 
     by : AtDesk (planOf s) (tableOf version1 (planOf s .points) strict) m a → a ≡ Done
-    by (short e) = absurd (n e)
     by (refusing e u) =
         absurd
         (plans .none-refused (planOf s) ts rs all (tableOf version1 (planOf s .points) strict) (tableOf version1 (planOf s .points) weak) g (st .work) h c m k u)
@@ -205,11 +206,11 @@ each-taken s ts rs all strict weak scratch d h c m k i a strict′ weak′ scrat
         absurd
         (plans .never-beyond (planOf s) ts rs (tableOf version1 (planOf s .points) strict) (tableOf version1 (planOf s .points) weak) g (st .work) m i u v t b)
 
-refused-again : (s : List ℕ) (ts rs : List Limit) (strict weak scratch : List ℤ) → Desk s ts rs strict weak → (m : Limit) → List·Memᴰ m rs
-    → (a : Answer) (strict′ weak′ scratch′ : List ℤ) → Added version1 (addAnswer s m) (planOf s) m strict weak scratch a strict′ weak′ scratch′
-    → a ≢ ShortRoom → a ≡ NotControllable
-refused-again s ts rs strict weak scratch d m k a strict′ weak′ scratch′ x n =
-    by (at-desk (add-exactly s m .1 (st .sound, refused-in-range (st .work) m k)) (desk-closed s ts rs strict weak st) x)
+refused-again : (s : List ℕ) (ts rs : List Limit) (strict weak scratch : List ℤ) → Desk ourJudge ourAdd s ts rs strict weak → (m : Limit) → List·Memᴰ m rs
+    → scratchOf (planOf s) ≤ length scratch
+    → (a : Answer) (strict′ weak′ scratch′ : List ℤ) → ourAdd s m strict weak scratch a strict′ weak′ scratch′ → a ≡ NotControllable
+refused-again s ts rs strict weak scratch d m k o a strict′ weak′ scratch′ x =
+    by (at-desk (add-exactly s m .1 (st .sound, refused-in-range (st .work) m k)) (st .room) o (desk-closed s ts rs strict weak st) x)
   where
     st : Stands s ts rs strict weak
     st = stands d
@@ -227,15 +228,14 @@ refused-again s ts rs strict weak scratch d m k a strict′ weak′ scratch′ x
     i = refused-in-range (st .work) m k
 
     by : AtDesk (planOf s) S m a → a ≡ NotControllable
-    by (short e) = absurd (n e)
     by (refusing e r) = e
     by (taking {strict′ = v} {weak′ = w} e t) =
         absurd (tables-controllable (withCells (planOf s) S m) v w (cells-pointed (planOf s) S m (in-range-pointed g) (i .from) (i .to)) t u)
     by (outside {strict′ = v} {weak′ = w} e t b) =
         absurd (tables-controllable (withCells (planOf s) S m) v w (cells-pointed (planOf s) S m (in-range-pointed g) (i .from) (i .to)) t u)
 
-never-twelve : (s : List ℕ) (ts rs : List Limit) (strict weak scratch : List ℤ) → Desk s ts rs strict weak → (m : Limit) (a : Answer)
-    (strict′ weak′ scratch′ : List ℤ) → Added version1 (addAnswer s m) (planOf s) m strict weak scratch a strict′ weak′ scratch′ → a ≢ NotClosed
+never-twelve : (s : List ℕ) (ts rs : List Limit) (strict weak scratch : List ℤ) → Desk ourJudge ourAdd s ts rs strict weak → (m : Limit) (a : Answer)
+    (strict′ weak′ scratch′ : List ℤ) → ourAdd s m strict weak scratch a strict′ weak′ scratch′ → a ≢ NotClosed
 never-twelve s ts rs strict weak scratch d m a strict′ weak′ scratch′ x e = by x e
   where
     st : Stands s ts rs strict weak
@@ -263,12 +263,8 @@ one-file s all one f strict weak t =
     (includes (planOf one) (withLimits (planOf s) all) (f .points) (f .none-less) (λ k h. subst (λ (ks : List Link). List·Memᴰ k ks) (sym (f .links)) h))
     strict weak t
 
-end-tables : (s : List ℕ) (ts rs all : List Limit) (strict weak : List ℤ) → Desk s ts rs strict weak → AllIn ts all → AllIn all ts
-    → (one : List ℕ) → OneFile s all one → (strict₀ weak₀ strict′ weak′ : List ℤ) (a : Answer) → RoomForTables (planOf one) strict₀ weak₀
-    → Judged version1 (fileAnswer one) (planOf one) strict₀ weak₀ a strict′ weak′
-    → (a ≡ Done)
-    × ((i : ℕ) → i < planOf s .points * planOf s .points
-    → (getD strict i (pos zero) ≡ getD strict′ i (pos zero)) × (getD weak i (pos zero) ≡ getD weak′ i (pos zero)))
+end-tables : (s : List ℕ) (ts rs all : List Limit) (strict weak : List ℤ) → Desk ourJudge ourAdd s ts rs strict weak → AllIn ts all → AllIn all ts
+    → OneFilesTables ourJudge s all strict weak
 unfolding tableOf
 end-tables s ts rs all strict weak d h k one f strict₀ weak₀ strict′ weak′ a r j = (done, cells)
   where
@@ -310,9 +306,28 @@ end-tables s ts rs all strict weak d h k one f strict₀ weak₀ strict′ weak�
           cell-injective (version1 .mark) (rw e at (same .open-same (p .row) (p .column) x y)),
         )
 
-pub demand3 : Demand3
+-- where all that was tried is among limits that the plan can take together, nothing was refused
+none-refused : {p : Plan} {ts rs all : List Limit} {strict weak : Table} → InRange version1 p → Additions version1 p ts rs strict weak → AllIn ts all
+    → AllIn rs all → (Uncontrollable (withLimits p all) → ⊥) → rs ≡ []
+none-refused g (additions.opened t) h k c = refl
+none-refused g (additions.taken a i t) h k c = none-refused g a (λ m l. h m (List·Memᴰ·tail l)) k c
+none-refused {p} {ts} {all} {strict} {weak} g (additions.refused {rs} {m} a i u) h k c =
+    absurd (plans .none-refused p ts rs all strict weak g a h c m (k m (List·Memᴰ·head refl)) u)
+
+whole-order : (s : List ℕ) (ts rs all : List Limit) (strict weak : List ℤ) → Desk ourJudge ourAdd s ts rs strict weak → AllIn ts all → AllIn rs all
+    → (Uncontrollable (withLimits (planOf s) all) → ⊥) → WholeOrder ourJudge s ts rs all strict weak
+whole-order s ts rs all strict weak d h k c =
+    let st : Stands s ts rs strict weak = stands d in
+    let none : rs ≡ [] = none-refused (good s (st .sound) .ranges) (st .work) h k c in
+    record {
+      none-refused = none;
+      end-tables = λ t. end-tables s ts rs all strict weak d h (λ m l. ⊎-elim (λ i. i) (λ i. absurd (List·Memᴰ·not-nil (rw none at i))) (t m l));
+    }
+
+pub demand3 : Demand3 ourJudge ourAdd
 demand3 =
     record {
+      whole-order = whole-order;
       each-taken = each-taken;
       end-tables = end-tables;
       some-refused = λ s ts rs all strict weak d t u.
