@@ -59,8 +59,7 @@ pub record Demand3 (Judge : AJudge) (Add : AnAdd) : Type 0 where
       → (Uncontrollable (withLimits (planOf s) all) → ⊥) → WholeOrder Judge s ts rs all strict weak
   -- step by step: each addition of one of them, with room in the scratch, is taken
   pub each-taken : (s : List ℕ) (ts rs all : List Limit) (strict weak scratch : List ℤ) → Desk Judge Add s ts rs strict weak → AllIn ts all
-      → (Uncontrollable (withLimits (planOf s) all) → ⊥) → (m : Limit) → List·Memᴰ m all → LimitInRange version1 (planOf s .points) m
-      → scratchOf (planOf s) ≤ length scratch
+      → (Uncontrollable (withLimits (planOf s) all) → ⊥) → (m : Limit) → List·Memᴰ m all → LimitInRange version1 (planOf s .points) m → scratchOf (planOf s) ≤ length scratch
       → (a : Answer) (strict′ weak′ scratch′ : List ℤ) → Add s m strict weak scratch a strict′ weak′ scratch′ → a ≡ Done
   -- and whatever was refused besides, the end tables are those of one file with all that were taken
   pub end-tables : (s : List ℕ) (ts rs all : List Limit) (strict weak : List ℤ) → Desk Judge Add s ts rs strict weak → AllIn ts all → AllIn all ts

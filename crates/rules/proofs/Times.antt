@@ -1,4 +1,4 @@
--- Minus the strict cells to the start are the earliest timetable of a plan without links. Assumes nothing.
+-- A plan without links that a timetable meets is controllable, and minus the strict cells to the start are its earliest timetable. Assumes nothing.
 use mathlib.Core.Path.{_≡_, subst}
 use mathlib.Core.List.{List, [], List·Memᴰ, List·Memᴰ·not-nil}
 use Prim.Native.Nat.{ℕ, zero, _<_}
@@ -7,8 +7,8 @@ use lib.Signed.{_≤ℤ_}
 use Rattle.whole.proofs.Order.{ints, plus, neg}
 use Rattle.rules.specs.Plan.{Limit, Link, Plan}
 use Rattle.rules.specs.Edges as edges
-use Rattle.rules.specs.Edges.{Derivable}
-use Rattle.rules.specs.Walks.{Walk, stay, step}
+use Rattle.rules.specs.Edges.{Derivable, Open}
+use Rattle.rules.specs.Walks.{Walk, stay, step, Uncontrollable}
 use Rattle.rules.specs.Cells.{num, Table}
 use Rattle.rules.specs.Tables.{Least, Tables}
 use Rattle.rules.specs.Times.{Timetable, Meets, EarliestTimes}
@@ -16,6 +16,12 @@ use Rattle.rules.proofs.Walks.{single}
 use Rattle.rules.proofs.Points.{Pointed}
 use Rattle.rules.proofs.Settled.{least-diagonal}
 use Rattle.rules.proofs.Cells.{same-number}
+
+-- times that meet every edge of a family meet every walk over it
+walk-met : {E : ℕ → ℕ → ℤ → Type 0} (u : Timetable) → ((x y : ℕ) (w : ℤ) → E x y w → u y ≤ℤ (u x +ℤ w)) → {x y : ℕ} {t : ℤ} → Walk E x y t → u y ≤ℤ (u x +ℤ t)
+walk-met u m {x} stay = omega (ints, plus (u x) (pos zero))
+walk-met u m {x} {y = z} (step {y} {v} {w} e k) =
+    omega (ints, m x y v e, walk-met u m k, plus (u x) v, plus (u y) w, plus v w, plus (u x) (v +ℤ w))
 
 module _ (p : Plan) (none : p .links ≡ []) where
   no-link : {X : Type 0} {k : Link} → List·Memᴰ k (p .links) → X
@@ -32,11 +38,14 @@ module _ (p : Plan) (none : p .links ≡ []) where
   edge-met u m (edges.lower h j l d) = no-link h
   edge-met u m (edges.upper h d) = no-link h
 
-  -- and every walk
-  walk-met : (u : Timetable) → Meets p u → {x y : ℕ} {t : ℤ} → Walk (Derivable p) x y t → u y ≤ℤ (u x +ℤ t)
-  walk-met u m {x} stay = omega (ints, plus (u x) (pos zero))
-  walk-met u m {x} {y = z} (step {y} {v} {w} e k) =
-      omega (ints, edge-met u m e, walk-met u m k, plus (u x) v, plus (u y) w, plus v w, plus (u x) (v +ℤ w))
+  -- and every open edge, since there is no lower-case one
+  open-met : (u : Timetable) → Meets p u → {x y : ℕ} {w : ℤ} → Open p x y w → u y ≤ℤ (u x +ℤ w)
+  open-met u m (edges.ordinary e) = edge-met u m e
+  open-met u m (edges.lower-case h) = no-link h
+
+  -- so there is no closed walk below 0
+  pub met-controllable : (u : Timetable) → Meets p u → Uncontrollable p → ⊥
+  met-controllable u m n = omega (ints, walk-met u (λ x y w e. open-met u m e) (n .walk), n .negative, plus (u (n .at)) (n .total))
 
   -- minus the strict cells to the start are the earliest times
   pub earliest-times : (strict weak : Table) → Pointed p → Tables p strict weak → (t : Timetable)
@@ -69,5 +78,5 @@ module _ (p : Plan) (none : p .links ≡ []) where
 
       early : (u : Timetable) → Meets p u → (x : ℕ) → x < p .points → t x ≤ℤ u x
       early u m x hx =
-          let met : u zero ≤ℤ (u x +ℤ negℤ (t x)) = walk-met u m (to-start x hx .0) in
+          let met : u zero ≤ℤ (u x +ℤ negℤ (t x)) = walk-met u (λ x y w e. edge-met u m e) (to-start x hx .0) in
           omega (ints, m .start, neg (t x), plus (u x) (negℤ (t x)))
