@@ -2,19 +2,18 @@
 use mathlib.Core.Path.{_≡_, sym, _∙_}
 use mathlib.Core.Bool.{Bool, true, false, _&&_, not, false≢true}
 use mathlib.Core.List.{List, []}
-use Prim.Native.Nat.{ℕ, _+_, _*_, _-_, _≤_, _<_}
-use native.Mathlib.Omega.{arith}
+use Prim.Native.Nat.{ℕ, _*_, _≤_, _<_}
 use lib.Dec.{leb, ltb}
-use lib.ListN.{length, take, drop}
+use lib.ListN.{length}
 use lib.IntN.{ℤ}
 use denote.Ref.{RefT, now}
 use borrow.Author.Tests.{le-leb, lt-leb}
 use Rattle.whole.proofs.Place.{square-le}
 use Rattle.rules.specs.declared.Side.{Side}
 use Rattle.rules.specs.Plan.{version1}
-use Rattle.rules.specs.Rows.{chosen, hasRow, rowOf, RowHanded}
-use Rattle.rules.proofs.Rows.{Fitting}
-use Rattle.plan.proofs.Tests.{failed, passed}
+use Rattle.rules.specs.Rows.{hasRow, RowHanded}
+use Rattle.rules.proofs.Rows.{Fitting, row-empty}
+use Rattle.plan.proofs.Tests.{failed}
 
 -- ---- the test
 
@@ -38,13 +37,6 @@ square-small f = square-le (f .few)
 -- an empty part, wherever it lies
 pub no-row : {strict weak part : RefT (List ℤ)} {n x : ℕ} {which : Side} {b : Bool} → b ≡ hasRow (length (now strict)) (length (now weak)) n x
     → not b ≡ true → now part ≡ [] → RowHanded strict weak n x which part
-unfolding rowOf
-no-row e t h = record { cells = rw (failed e t) h; own = λ k. absurd (false≢true (sym (failed e t) ∙ k)) }
-
--- the numbers of the part that the code cuts out
-pub row-is : (strict weak : List ℤ) (n x : ℕ) (which : Side) (b : Bool) → b ≡ hasRow (length strict) (length weak) n x → not b ≡ false
-    → take (x * n + n - x * n) (drop (x * n) (chosen strict weak which)) ≡ rowOf strict weak n x which
-unfolding rowOf
-row-is strict weak n x which b e t =
-    let w : x * n + n - x * n ≡ n = omega arith in
-    rw (passed e t, w)
+no-row {strict} {weak} {n = n} {x} {which} e t h =
+    let f = failed e t in
+    record { cells = h ∙ sym (row-empty (now strict) (now weak) n x which f); own = λ k. absurd (false≢true (sym f ∙ k)) }

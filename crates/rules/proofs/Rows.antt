@@ -1,24 +1,22 @@
--- Row access: what the test for a row says, either way, and what the numbers of a row are. Assumes nothing.
-use mathlib.Core.Path.{_≡_, refl}
-use mathlib.Core.Bool.{Bool, true, false, _&&_, and-eq-true-iff}
-use mathlib.Core.Logic.{_⊎_, inl, inr, ⊎-elim}
+-- Row access: what the test for a row says, and what the numbers of a row are. Assumes nothing.
+use mathlib.Core.Path.{_≡_}
+use mathlib.Core.Bool.{true, false, _&&_, and-eq-true-iff}
 use mathlib.Core.List.{List, []}
 use Prim.Native.Nat.{ℕ, zero, _+_, _*_, _≤_, _<_}
 use native.Mathlib.Omega.{arith}
 use lib.Dec.{leb, ltb}
-use lib.ListN.{length, getD, drop, length-drop}
+use lib.ListN.{length, getD, take, drop, length-drop}
 use lib.Seq.{length-take-le, getD-take, getD-drop}
 use lib.IntN.{ℤ, pos}
-use borrow.Author.Tests.{leb-true, leb-false, ltb-true, ltb-false}
+use borrow.Author.Tests.{leb-true, ltb-true}
 use Rattle.whole.proofs.Place.{row-inside}
 use Rattle.rules.specs.declared.Side.{Side}
 use Rattle.rules.specs.declared.Side.the-variants.{Strict, Open}
 use Rattle.rules.specs.Plan.{version1}
 use Rattle.rules.specs.Rows.{chosen, hasRow, rowOf}
 
--- ---- the test, either way
+-- ---- the test: there is a row
 
--- there is a row
 pub record Fitting (strict weak n x : ℕ) : Type 0 where
   pub some : 1 ≤ n
   pub few : n ≤ version1 .points
@@ -45,25 +43,6 @@ fitting strict weak n x e =
 pub row-end : {strict weak n x : ℕ} → Fitting strict weak n x → x * n + n ≤ n * n
 row-end f = row-inside (f .row)
 
--- of two tests that do not hold together one fails
-either : {X : Type 0} (a b : Bool) → (a && b) ≡ false → (a ≡ false → X) → (b ≡ false → X) → X
-either true b e f g = g e
-either false b e f g = f refl
-
--- there is none: which of the paper's reasons
-abbrev pub Lacking : ℕ → ℕ → ℕ → ℕ → Type 0
-Lacking strict weak n x = ((n < 1) ⊎ (version1 .points < n)) ⊎ ((n ≤ x) ⊎ ((strict < n * n) ⊎ (weak < n * n)))
-
-pub lacking : (strict weak n x : ℕ) → hasRow strict weak n x ≡ false → Lacking strict weak n x
-unfolding hasRow
-lacking strict weak n x e =
-    either (leb n (version1 .points)) (leb 1 n && ltb x n && leb (n * n) strict && leb (n * n) weak) e (λ h. inl (inr (leb-false n (version1 .points) h)))
-    (λ d. either (leb 1 n && ltb x n && leb (n * n) strict) (leb (n * n) weak) d
-    (λ c. either (leb 1 n && ltb x n) (leb (n * n) strict) c
-    (λ b. either (leb 1 n) (ltb x n) b (λ h. inl (inl (leb-false 1 n h))) (λ h. inr (inl (ltb-false x n h))))
-    (λ h. inr (inr (inl (leb-false (n * n) strict h)))))
-    (λ h. inr (inr (inr (leb-false (n * n) weak h)))))
-
 -- ---- the numbers of a row
 
 -- none where there is no row
@@ -74,14 +53,16 @@ row-empty strict weak n x which e = rw e
 
 -- else n of them, those of the chosen table from x to each point
 module _ (strict weak : List ℤ) (n x : ℕ) (which : Side) (e : hasRow (length strict) (length weak) n x ≡ true) where
+  pub row-there : rowOf strict weak n x which ≡ take n (drop (x * n) (chosen strict weak which))
+  unfolding rowOf
+  row-there = rw e
+
   long : (w : Side) → x * n + n ≤ length (chosen strict weak w)
   long Strict = omega (arith, row-end (fitting (length strict) (length weak) n x e), fitting (length strict) (length weak) n x e .strict-room)
   long Open = omega (arith, row-end (fitting (length strict) (length weak) n x e), fitting (length strict) (length weak) n x e .open-room)
 
   pub row-length : length (rowOf strict weak n x which) ≡ n
-  unfolding rowOf
-  row-length = rw e (length-take-le n (drop (x * n) (chosen strict weak which)) (simp length-drop (omega (arith, long which))))
+  row-length = rw row-there (length-take-le n (drop (x * n) (chosen strict weak which)) (simp length-drop (omega (arith, long which))))
 
   pub row-cell : (y : ℕ) → y < n → getD (rowOf strict weak n x which) y (pos zero) ≡ getD (chosen strict weak which) (x * n + y) (pos zero)
-  unfolding rowOf
-  row-cell y h = rw (e, getD-take, getD-drop)
+  row-cell y h = rw (row-there, getD-take, getD-drop)
