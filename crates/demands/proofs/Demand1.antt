@@ -1,20 +1,29 @@
 -- The first demand holds. Assumes nothing.
-use mathlib.Core.Path.{_≡_, refl}
+use mathlib.Core.Path.{_≡_, refl, sym, _∙_}
 use mathlib.Core.Logic.{_≢_, _⊎_, inl, inr, ⊎-elim}
-use mathlib.Core.List.{List}
+use mathlib.Core.Bool.{Bool, true, false, _&&_}
+use mathlib.Core.List.{List, []}
 use Prim.Native.Nat.{ℕ, zero, _*_, _≤_}
 use native.Mathlib.Omega.{arith}
+use lib.Dec.{leb, ltb}
+use lib.ListN.{length}
 use lib.IntN.{ℤ, pos}
+use denote.Ref.{RefT, ptr, now}
+use borrow.Author.Tests.{leb-false, ltb-false}
 use Rattle.rules.specs.declared.Answer.{Answer}
 use Rattle.rules.specs.declared.Answer.the-variants.{Done, FewBytes, BadVersion, BadPoints, BadCounts, BadLayout, BadLimit, BadLink, RepeatedLink, ShortRoom, HasLinks, NotControllable, NotClosed}
+use Rattle.rules.specs.declared.Side.{Side}
+use Rattle.rules.specs.declared.Side.the-variants.{Strict, Open}
 use Rattle.rules.specs.Plan.{Limit, version1, InRange}
 use Rattle.rules.specs.Answers.{codeOf}
 use Rattle.rules.specs.Calls.{Kept, Filled, Judged, Checked, Timed, Added}
+use Rattle.rules.specs.Rows.{chosen, hasRow, OwnCells, RowHanded}
 use Rattle.rules.proofs.OneAnswer.{judged-once, checked-once, timed-once, added-once}
+use Rattle.rules.proofs.Rows.{fitting, row-empty, row-length, row-cell}
 use Rattle.plan.specs.Layout.{planOf}
 use Rattle.plan.specs.File.{fileAnswer, addAnswer}
 use Rattle.plan.proofs.Good.{good, add-exactly}
-use Rattle.demands.specs.Demand1.{JudgeLeaves, CheckLeaves, EarliestLeaves, AddLeaves, Demand1}
+use Rattle.demands.specs.Demand1.{JudgeLeaves, CheckLeaves, EarliestLeaves, AddLeaves, RowLeaves, Demand1}
 use Rattle.demands.proofs.Codes.{place-named, FileCode, file-code, add-code}
 
 -- a list that stays keeps what lies past any room
@@ -199,6 +208,56 @@ module _ (s : List ℕ) where
 in-range : (s : List ℕ) → fileAnswer s ≡ Done → InRange version1 (planOf s)
 in-range s e = good s e .ranges
 
+-- ---- row access
+
+-- of two tests that do not hold together one fails
+one-fails : {X : Type 0} (a b : Bool) → (a && b) ≡ false → (a ≡ false → X) → (b ≡ false → X) → X
+one-fails true b e f g = g e
+one-fails false b e f g = f refl
+
+-- the chosen table's numbers are the chosen numbers
+now-chosen : (strict weak : RefT (List ℤ)) (which : Side) → now (chosen strict weak which) ≡ chosen (now strict) (now weak) which
+now-chosen strict weak Strict = refl
+now-chosen strict weak Open = refl
+
+-- two parts that are the same cells lie at the same place
+same-place : {table a b : RefT (List ℤ)} {k : ℕ} → OwnCells table k a → OwnCells table k b → ptr a ≡ ptr b
+same-place p q i = ((p .block ∙ sym (q .block)) i, (p .offset ∙ sym (q .offset)) i)
+
+module _ (strict weak : RefT (List ℤ)) (n x : ℕ) (which : Side) (part : RefT (List ℤ)) (h : RowHanded strict weak n x which part) where
+  row-left : hasRow (length (now strict)) (length (now weak)) n x ≡ true → RowLeaves strict weak n x which part
+  row-left e =
+      let f = fitting (length (now strict)) (length (now weak)) n x e in
+      RowLeaves.row (f .some) (f .few) (f .row) (f .strict-room) (f .open-room)
+      (record {
+        cells = rw (h .cells) (row-length (now strict) (now weak) n x which e);
+        cell = λ y k. rw (h .cells, now-chosen strict weak which) (row-cell (now strict) (now weak) n x which e y k);
+        own = h .own e;
+      })
+
+  nothing-left : hasRow (length (now strict)) (length (now weak)) n x ≡ false → RowLeaves strict weak n x which part
+  unfolding hasRow
+  nothing-left e =
+      let none : now part ≡ [] = h .cells ∙ row-empty (now strict) (now weak) n x which e in
+      let s = length (now strict) in
+      let w = length (now weak) in
+      one-fails (leb n (version1 .points)) (leb 1 n && ltb x n && leb (n * n) s && leb (n * n) w) e
+      (λ k. RowLeaves.nothing (inl (inr (leb-false n (version1 .points) k))) none)
+      (λ d. one-fails (leb 1 n && ltb x n && leb (n * n) s) (leb (n * n) w) d
+      (λ c. one-fails (leb 1 n && ltb x n) (leb (n * n) s) c
+      (λ b. one-fails (leb 1 n) (ltb x n) b
+      (λ k. RowLeaves.nothing (inl (inl (leb-false 1 n k))) none)
+      (λ k. RowLeaves.nothing (inr (inl (ltb-false x n k))) none))
+      (λ k. RowLeaves.nothing (inr (inr (inl (leb-false (n * n) s k)))) none))
+      (λ k. RowLeaves.nothing (inr (inr (inr (leb-false (n * n) w k)))) none))
+
+  row-leaves : RowLeaves strict weak n x which part
+  row-leaves = by (hasRow (length (now strict)) (length (now weak)) n x) refl
+    where
+      by : (b : Bool) → hasRow (length (now strict)) (length (now weak)) n x ≡ b → RowLeaves strict weak n x which part
+      by true e = row-left e
+      by false e = nothing-left e
+
 -- whatever a call is lent, one of the numbered answers, every lent cell as the paper says, and no other answer
 pub demand1 : Demand1
 demand1 =
@@ -217,4 +276,6 @@ demand1 =
       add-once = λ s m strict weak scratch a b s₁ s₂ w₁ w₂ c₁ c₂ x y.
           let e = added-once version1 (addAnswer s m) (planOf s) m (λ h. in-range s (add-exactly s m .0 h .0)) (λ h. add-exactly s m .0 h .1) x y in
           (e .answer, e .strict, e .weak, e .scratch);
+      row = row-leaves;
+      row-once = λ strict weak n x which a b p q. (p .cells ∙ sym (q .cells), λ e. same-place (p .own e) (q .own e));
     }

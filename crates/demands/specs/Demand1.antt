@@ -1,15 +1,21 @@
--- The first demand: whatever a call is lent, it gives one of the paper's numbered answers and leaves every lent cell as the paper says.
--- That a call's statement (rules, specs/Calls.antt) holds for every input is the call's contract; here is what the statement fixes. Assumes nothing.
+-- The first demand: whatever a call is lent, it gives one of the paper's numbered answers and leaves every lent cell as the paper says; row access hands
+-- back a row or nothing. That a call's statement (rules, specs/Calls.antt and Rows.antt) holds for every input is the call's contract; here is what the
+-- statement fixes. Assumes nothing.
 use mathlib.Core.Path.{_≡_}
 use mathlib.Core.Logic.{_⊎_}
-use mathlib.Core.List.{List}
-use Prim.Native.Nat.{ℕ, zero, _*_, _≤_, _<_}
+use mathlib.Core.Bool.{true}
+use mathlib.Core.List.{List, []}
+use Prim.Native.Nat.{ℕ, zero, _+_, _*_, _≤_, _<_}
+use lib.ListN.{length, getD}
 use lib.IntN.{ℤ, pos}
+use denote.Ref.{RefT, ptr, now}
 use Rattle.rules.specs.declared.Answer.{Answer}
 use Rattle.rules.specs.declared.Answer.the-variants.{Done, NotControllable}
+use Rattle.rules.specs.declared.Side.{Side}
 use Rattle.rules.specs.Plan.{Limit, version1}
 use Rattle.rules.specs.Answers.{codeOf, placeOf}
 use Rattle.rules.specs.Calls.{cellsOf, scratchOf, Kept, Filled, Marked, Judged, Checked, Timed, Added}
+use Rattle.rules.specs.Rows.{chosen, hasRow, OwnCells, RowHanded}
 use Rattle.plan.specs.Layout.{planOf}
 use Rattle.plan.specs.File.{fileAnswer, addAnswer}
 
@@ -53,7 +59,21 @@ pub record AddLeaves (s : List ℕ) (m : Limit) (strict weak scratch : List ℤ)
   pub open-beyond : Kept (cellsOf (planOf s)) weak weak′
   pub scratch-beyond : Kept (scratchOf (planOf s)) scratch scratch′
 
--- all calls that answer with a code; and two answers to the same input are equal, in code, place and every lent cell
+-- The part is "that row of the chosen table, the caller's own cells and no copy": n cells, the table's from x * n on, where they lie.
+pub record IsRow (table : RefT (List ℤ)) (n x : ℕ) (part : RefT (List ℤ)) : Type 0 where
+  pub cells : length (now part) ≡ n
+  pub cell : (y : ℕ) → y < n → getD (now part) y (pos zero) ≡ getD (now table) (x * n + y) (pos zero)
+  pub own : OwnCells table (x * n) part
+
+-- Row access: a row, or nothing "with n not 1 to 64, a point at or above n, or either table shorter than n x n"
+pub data RowLeaves (strict weak : RefT (List ℤ)) (n x : ℕ) (which : Side) (part : RefT (List ℤ)) : Type 0 where
+  row : 1 ≤ n → n ≤ version1 .points → x < n → n * n ≤ length (now strict) → n * n ≤ length (now weak) → IsRow (chosen strict weak which) n x part
+      → RowLeaves strict weak n x which part
+  nothing : ((n < 1) ⊎ (version1 .points < n)) ⊎ ((n ≤ x) ⊎ ((length (now strict) < n * n) ⊎ (length (now weak) < n * n))) → now part ≡ []
+      → RowLeaves strict weak n x which part
+
+-- all calls that answer with a code, and row access; and two answers to the same input are equal, in code, place and every lent cell, two parts in
+-- their numbers and, where there is a row, in where they lie
 pub record Demand1 : Type 0 where
   pub judge : (s : List ℕ) (strict weak : List ℤ) (a : Answer) (strict′ weak′ : List ℤ)
       → Judged version1 (fileAnswer s) (planOf s) strict weak a strict′ weak′ → JudgeLeaves s strict weak a strict′ weak′
@@ -76,3 +96,7 @@ pub record Demand1 : Type 0 where
   pub add-once : (s : List ℕ) (m : Limit) (strict weak scratch : List ℤ) (a b : Answer) (s₁ s₂ w₁ w₂ c₁ c₂ : List ℤ)
       → Added version1 (addAnswer s m) (planOf s) m strict weak scratch a s₁ w₁ c₁
       → Added version1 (addAnswer s m) (planOf s) m strict weak scratch b s₂ w₂ c₂ → (a ≡ b) × (s₁ ≡ s₂) × (w₁ ≡ w₂) × (c₁ ≡ c₂)
+  pub row : (strict weak : RefT (List ℤ)) (n x : ℕ) (which : Side) (part : RefT (List ℤ)) → RowHanded strict weak n x which part
+      → RowLeaves strict weak n x which part
+  pub row-once : (strict weak : RefT (List ℤ)) (n x : ℕ) (which : Side) (a b : RefT (List ℤ)) → RowHanded strict weak n x which a
+      → RowHanded strict weak n x which b → (now a ≡ now b) × (hasRow (length (now strict)) (length (now weak)) n x ≡ true → ptr a ≡ ptr b)

@@ -1,18 +1,19 @@
--- Row access: what the test for a row gives, and the part that is handed back. Assumes nothing.
-use mathlib.Core.Path.{_≡_}
-use mathlib.Core.Bool.{Bool, true, false, _&&_, not}
+-- Row access: the test for a row as the code makes it, and the part that is handed back. Assumes nothing.
+use mathlib.Core.Path.{_≡_, sym, _∙_}
+use mathlib.Core.Bool.{Bool, true, false, _&&_, not, false≢true}
 use mathlib.Core.List.{List, []}
-use Prim.Native.Nat.{ℕ, _+_, _*_, _-_, _≤_, _<_}
-use native.Mathlib.Omega.{arith}
+use Prim.Native.Nat.{ℕ, _*_, _≤_, _<_}
 use lib.Dec.{leb, ltb}
-use lib.ListN.{length, take, drop}
+use lib.ListN.{length}
 use lib.IntN.{ℤ}
-use borrow.Author.Tests.{leb-true, ltb-true, le-leb, lt-leb}
-use Rattle.whole.proofs.Place.{row-inside, square-le}
+use denote.Ref.{RefT, now}
+use borrow.Author.Tests.{le-leb, lt-leb}
+use Rattle.whole.proofs.Place.{square-le}
+use Rattle.rules.specs.declared.Side.{Side}
 use Rattle.rules.specs.Plan.{version1}
-use Rattle.plan.proofs.Tests.{failed, passed, both}
-use Rattle.post.specs.declared.Side.{Side}
-use Rattle.post.specs.Row.{chosen, hasRow, rowOf}
+use Rattle.rules.specs.Rows.{hasRow, RowHanded}
+use Rattle.rules.proofs.Rows.{Fitting, row-empty}
+use Rattle.plan.proofs.Tests.{failed}
 
 -- ---- the test
 
@@ -26,44 +27,16 @@ pub else : (strict weak n x : ℕ) → n ≤ 64 → (leb 1 n && ltb x n && leb (
 unfolding hasRow version1
 else strict weak n x h = rw (le-leb n 64 h)
 
--- ---- what it gives
-
-pub record Fitting (strict weak n x : ℕ) : Type 0 where
-  pub few : n ≤ 64
-  pub row : x < n
-  pub strict-room : n * n ≤ strict
-  pub open-room : n * n ≤ weak
-
-pub fitting : (strict weak n x : ℕ) → hasRow strict weak n x ≡ true → Fitting strict weak n x
-unfolding hasRow version1
-fitting strict weak n x e =
-    let p = both (leb n 64) (leb 1 n && ltb x n && leb (n * n) strict && leb (n * n) weak) e in
-    let q = both (leb 1 n && ltb x n && leb (n * n) strict) (leb (n * n) weak) (p .1) in
-    let o = both (leb 1 n && ltb x n) (leb (n * n) strict) (q .0) in
-    record {
-      few = leb-true n 64 (p .0);
-      row = ltb-true x n (both (leb 1 n) (ltb x n) (o .0) .1);
-      strict-room = leb-true (n * n) strict (o .1);
-      open-room = leb-true (n * n) weak (q .1);
-    }
-
--- the row ends within a table, and its place is small
-pub row-end : {strict weak n x : ℕ} → Fitting strict weak n x → x * n + n ≤ n * n
-row-end f = row-inside (f .row)
-
+-- where there is a row its place is small
 pub square-small : {strict weak n x : ℕ} → Fitting strict weak n x → n * n ≤ 4096
+unfolding version1
 square-small f = square-le (f .few)
 
 -- ---- what is handed back
 
-pub no-row : (strict weak : List ℤ) (n x : ℕ) (which : Side) (b : Bool) → b ≡ hasRow (length strict) (length weak) n x → not b ≡ true
-    → [] ≡ rowOf strict weak n x which
-unfolding rowOf
-no-row strict weak n x which b e t = rw (failed e t)
-
-pub row-is : (strict weak : List ℤ) (n x : ℕ) (which : Side) (b : Bool) → b ≡ hasRow (length strict) (length weak) n x → not b ≡ false
-    → take (x * n + n - x * n) (drop (x * n) (chosen strict weak which)) ≡ rowOf strict weak n x which
-unfolding rowOf
-row-is strict weak n x which b e t =
-    let w : x * n + n - x * n ≡ n = omega arith in
-    rw (passed e t, w)
+-- an empty part, wherever it lies
+pub no-row : {strict weak part : RefT (List ℤ)} {n x : ℕ} {which : Side} {b : Bool} → b ≡ hasRow (length (now strict)) (length (now weak)) n x
+    → not b ≡ true → now part ≡ [] → RowHanded strict weak n x which part
+no-row {strict} {weak} {n = n} {x} {which} e t h =
+    let f = failed e t in
+    record { cells = h ∙ sym (row-empty (now strict) (now weak) n x which f); own = λ k. absurd (false≢true (sym f ∙ k)) }

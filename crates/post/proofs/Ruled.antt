@@ -1,13 +1,10 @@
--- What the statements of Check and row access rule out, and that each fixes its answer. Assumes nothing.
+-- What the statement of Check rules out, and that it fixes its answer. Assumes nothing.
 use mathlib.Core.Path.{_≡_, sym, ap, _∙_}
 use mathlib.Core.Logic.{_≢_}
 use mathlib.Core.List.{List}
-use mathlib.Core.Bool.{true}
-use Prim.Native.Nat.{ℕ, _+_, _*_, _≤_, _<_}
+use Prim.Native.Nat.{ℕ}
 use native.Mathlib.Omega.{arith}
-use lib.ListN.{length, getD, drop, length-drop}
-use lib.Seq.{length-take-le, getD-take, getD-drop}
-use lib.IntN.{ℤ, pos}
+use lib.IntN.{ℤ}
 use borrow.Author.Tests.{eq-eqb}
 use Rattle.rules.specs.Plan.{Plan, Ranges, version1}
 use Rattle.rules.specs.Answers.{codeOf}
@@ -26,11 +23,7 @@ use Rattle.answers.proofs.Codes.{code-zero}
 use Rattle.plan.specs.Layout.{planOf}
 use Rattle.plan.specs.File.{fileAnswer}
 use Rattle.plan.proofs.Good.{good}
-use Rattle.post.specs.declared.Side.{Side}
-use Rattle.post.specs.declared.Side.the-variants.{Strict, Open}
-use Rattle.post.specs.Row.{chosen, hasRow, rowOf}
 use Rattle.post.specs.Faces.{packedOf, Packed}
-use Rattle.post.proofs.Rows.{fitting, row-end}
 
 -- what code 0 says: the file is sound, and the tables are closed
 pub record Accepted (r : Ranges) (file : Answer) (p : Plan) (strict weak : List ℤ) : Type 0 where
@@ -72,22 +65,3 @@ tables-accepted s strict weak a d q t c =
     demand2-of-plans version1 version1-coherent .tables-are-closed (planOf s) (tableOf version1 (planOf s .points) strict)
     (tableOf version1 (planOf s .points) weak) (good s d .ranges) t in
     check-once s strict weak a Done c (calls.Checked.closed d q k)
-
--- two parts that meet row access's statement are equal
-pub row-once : (strict weak : List ℤ) (n x : ℕ) (which : Side) (a b : List ℤ) → a ≡ rowOf strict weak n x which → b ≡ rowOf strict weak n x which
-    → a ≡ b
-row-once strict weak n x which a b e f = e ∙ sym f
-
--- where there is a row, it has n cells, and they are those of the chosen table from x to each point
-module _ (strict weak : List ℤ) (n x : ℕ) (which : Side) (e : hasRow (length strict) (length weak) n x ≡ true) where
-  long : (w : Side) → x * n + n ≤ length (chosen strict weak w)
-  long Strict = omega (arith, row-end (fitting (length strict) (length weak) n x e), fitting (length strict) (length weak) n x e .strict-room)
-  long Open = omega (arith, row-end (fitting (length strict) (length weak) n x e), fitting (length strict) (length weak) n x e .open-room)
-
-  pub row-length : length (rowOf strict weak n x which) ≡ n
-  unfolding rowOf
-  row-length = rw e (length-take-le n (drop (x * n) (chosen strict weak which)) (simp length-drop (omega (arith, long which))))
-
-  pub row-cell : (y : ℕ) → y < n → getD (rowOf strict weak n x which) y (pos 0) ≡ getD (chosen strict weak which) (x * n + y) (pos 0)
-  unfolding rowOf
-  row-cell y h = rw (e, getD-take, getD-drop)

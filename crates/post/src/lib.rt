@@ -6,9 +6,9 @@ mod timing;
 ghost use mathlib.Core.Path.{_≡_};
 ghost use Rattle.rules.specs.Plan.{version1};
 ghost use Rattle.rules.specs.Calls.{Checked};
+ghost use Rattle.rules.specs.Rows.{hasRow, RowHanded};
 ghost use Rattle.plan.specs.Layout.{planOf};
 ghost use Rattle.plan.specs.File.{fileAnswer};
-ghost use Rattle.post.specs.Row.{hasRow, rowOf};
 pub use adding::add;
 use answers::accepted;
 use closed::closed;
@@ -20,13 +20,8 @@ pub use judging::judge;
 use plan::head;
 use plan::sound;
 use rules::Answer;
+pub use rules::Side;
 pub use timing::earliest;
-
-// Which of two tables.
-pub enum Side {
-    Strict,
-    Open,
-}
 
 // Check: whether two tables are closed for a plan file. It writes nothing.
 pub fn check(file: &[u8], strict: &[i32], open: &[i32]) -> Answer
@@ -64,7 +59,7 @@ fn has_row(strict: usize, open: usize, n: usize, x: usize) -> bool
 
 // Row access: row x of the chosen table, where it lies, or an empty part.
 pub fn row<'a>(strict: &'a [i32], open: &'a [i32], n: usize, x: usize, which: Side) -> &'a [i32]
-    ensures { λ r. ⌜ now r ≡ rowOf (now (strict .entry)) (now («open» .entry)) n x which ⌝ }
+    ensures { λ r. ⌜ RowHanded (strict .entry) («open» .entry) n x which r ⌝ }
 {
     if !has_row(strict.len(), open.len(), n, x) {
         return &strict[..0];

@@ -17,3 +17,4 @@ pub mod Demands
 pub mod Times
 pub mod Lists
 pub mod OneAnswer
+pub mod Rows

@@ -8,4 +8,5 @@ pub mod Times
 pub mod Answers
 pub mod Additions
 pub mod Calls
+pub mod Rows
 pub mod Demands

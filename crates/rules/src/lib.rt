@@ -1,5 +1,5 @@
 // The rule paper. This crate has no functions: specs/ holds the paper's definitions, proofs/ the theorems on them, and
-// here stands the one type that code and definitions share.
+// here stand the two types that code and definitions share.
 
 // What a call answers: a case for each code of the paper's table "Numbers returned", with the place where the paper names one.
 // The paper's numbers are codeOf and placeOf of specs/Answers.antt.
@@ -30,4 +30,10 @@ pub enum Answer {
     NotControllable,
     // 12: tables not closed, or a cell of Add's result out of range
     NotClosed,
+}
+
+// Which of two tables: row access is given "a choice, strict or open only".
+pub enum Side {
+    Strict,
+    Open,
 }

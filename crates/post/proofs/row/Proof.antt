@@ -1,12 +1,15 @@
 -- `row` meets its contract: the row lies within its table. Assumes nothing.
 use borrow.Author.Needs.{needs}
+use native.Mathlib.Nat.{add-sub-cancel-left}
 use native.Mathlib.Omega.{arith}
-use mathlib.Core.Path.{_≡_, subst}
-use Prim.Native.Nat.{_+_, _*_, _-_}
-use lib.ListN.{length, take, drop}
+use mathlib.Core.Path.{_≡_, refl}
+use mathlib.Core.Bool.{true}
+use lib.ListN.{length}
 use Rattle.plan.proofs.Tests.{passed}
-use Rattle.post.specs.Row.{chosen, rowOf}
-use Rattle.post.proofs.Rows.{Fitting, fitting, row-end, square-small, no-row, row-is}
+use Rattle.rules.specs.declared.Side.the-variants.{Strict, Open}
+use Rattle.rules.specs.Rows.{hasRow}
+use Rattle.rules.proofs.Rows.{Fitting, fitting, row-end, row-there}
+use Rattle.post.proofs.Rows.{square-small, no-row}
 use Rattle.post.proofs.row.Statement.{statement}
 use Rattle.post.proofs.row.Tie as tie
 
@@ -17,16 +20,16 @@ slice-aggregate-result : tie.Need-slice-aggregate-result
 slice-aggregate-result c = search needs
 
 returns : tie.Need-returns
-returns c =
-    let a = c .before .before .before .args in
-    no-row (a .strict .now) (a .«open» .now) (a .n) (a .x) (a .which) (c .before .before .has-row .result) (c .before .before .has-row .ensures)
-    (c .before .if1 .taken)
+returns c = no-row (c .before .before .has-row .ensures) (c .before .if1 .taken) refl
 
 -- past the test there is a row
+there : (c : tie.Else1) → let a = c .before .before .args in hasRow (length (a .strict .now)) (length (a .«open» .now)) (a .n) (a .x) ≡ true
+there c = passed (c .before .has-row .ensures) (c .if1 .left)
+
 fits : (c : tie.Else1) → let a = c .before .before .args in Fitting (length (a .strict .now)) (length (a .«open» .now)) (a .n) (a .x)
 fits c =
     let a = c .before .before .args in
-    fitting (length (a .strict .now)) (length (a .«open» .now)) (a .n) (a .x) (passed (c .before .has-row .ensures) (c .if1 .left))
+    fitting (length (a .strict .now)) (length (a .«open» .now)) (a .n) (a .x) (there c)
 
 mul-from : tie.Need-mul-from
 mul-from c = omega (arith, row-end (fits c), square-small (fits c))
@@ -49,7 +52,7 @@ part-result-start c = search needs
 part-result-end : tie.Need-part-result-end
 part-result-end c =
     let f = fits (c .before .before) in
-    omega (arith, row-end f, f .strict-room)
+    omega (arith, row-end f)
 
 enum-told-2 : tie.Need-enum-told-2
 enum-told-2 c = search needs
@@ -66,23 +69,27 @@ part-result-start-2 c = search needs
 part-result-end-2 : tie.Need-part-result-end-2
 part-result-end-2 c =
     let f = fits (c .before .before) in
-    omega (arith, row-end f, f .open-room)
+    omega (arith, row-end f)
 
 returns-2 : tie.Need-returns-2
 returns-2 c =
-    let t = c .before .before .before .before in
-    let a = t .before .args in
-    subst (λ w. take (a .x * a .n + a .n - a .x * a .n) (drop (a .x * a .n) (chosen (a .strict .now) (a .«open» .now) w)) ≡ rowOf (a .strict .now) (a .«open» .now) (a .n) (a .x) (a .which))
-    (c .before .enum-told .given .1)
-    (row-is (a .strict .now) (a .«open» .now) (a .n) (a .x) (a .which) (t .has-row .result) (t .has-row .ensures) (c .before .before .before .if1 .left))
+    let t = c .before .before .before in
+    let a = t .before .before .args in
+    rw (c .before .enum-told .given .1)
+    (record {
+      cells = simp add-sub-cancel-left (cc (row-there (a .strict .now) (a .«open» .now) (a .n) (a .x) Strict (there t)));
+      own = λ e. record { block = refl; offset = search needs };
+    })
 
 returns-3 : tie.Need-returns-3
 returns-3 c =
-    let t = c .before .before .before .before in
-    let a = t .before .args in
-    subst (λ w. take (a .x * a .n + a .n - a .x * a .n) (drop (a .x * a .n) (chosen (a .strict .now) (a .«open» .now) w)) ≡ rowOf (a .strict .now) (a .«open» .now) (a .n) (a .x) (a .which))
-    (c .before .enum-told2 .given .1)
-    (row-is (a .strict .now) (a .«open» .now) (a .n) (a .x) (a .which) (t .has-row .result) (t .has-row .ensures) (c .before .before .before .if1 .left))
+    let t = c .before .before .before in
+    let a = t .before .before .args in
+    rw (c .before .enum-told2 .given .1)
+    (record {
+      cells = simp add-sub-cancel-left (cc (row-there (a .strict .now) (a .«open» .now) (a .n) (a .x) Open (there t)));
+      own = λ e. record { block = refl; offset = search needs };
+    })
 
 pub row-spec : {M : Type 1} → statement M
 row-spec =
