@@ -23,7 +23,8 @@ need() {
 
 # Ends with a sentence where the small program is not built: what is not there was not held.
 program_built() {
-  [[ -x $verdict ]] || fail "there is no ${verdict#"$root"/}, the small program: build it with \`rt check verdict\`"
+  [[ -x $verdict ]] || fail "there is no ${verdict#"$root"/}, the small program: build it with \`rt check verdict\`" \
+    "(where that says unchanged, remove target/stamp/verdict first)"
 }
 
 # A flavour is how the calls are come by: `standin`, the plain C++ sweep, native; or `library`, libpost.a.
