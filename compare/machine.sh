@@ -1,10 +1,11 @@
-# Sourced by run, bench and bite: which compilers, which emulator, where things lie, and how programs are built. Works on x86-64 and on Arm.
+# Sourced by run, program, bench and bite: which compilers, which emulator, where things lie, and how programs are built. Works on x86-64 and on Arm.
 # The library is x86-64 code, so what links it is compiled for x86-64 and, elsewhere, run by the kit's emulator. What does not link it is native.
 
 here=$(cd "$(dirname "${BASH_SOURCE[0]}")" && pwd)
 root=$(dirname "$here")
 out=$root/target/compare
 library=${POST_LIBRARY:-$root/target/staticlib/libpost.a}
+verdict=$root/target/bin/verdict  # the small program
 flags=(-I"$root/include" -std=c++17 "${OPTIMIZE:--O2}" -Wall -Wextra)
 fail() { echo "compare: $*" >&2; exit 2; }
 
@@ -20,6 +21,12 @@ need() {
   }
 }
 
+# Ends with a sentence where the small program is not built: what is not there was not held.
+program_built() {
+  [[ -x $verdict ]] || fail "there is no ${verdict#"$root"/}, the small program: build it with \`rt check verdict\`" \
+    "(where that says unchanged, remove target/stamp/verdict first)"
+}
+
 # A flavour is how the calls are come by: `standin`, the plain C++ sweep, native; or `library`, libpost.a.
 choose() {
   flavour=$1
@@ -27,6 +34,11 @@ choose() {
   need g++ g++
   [[ $flavour == library ]] || return 0
   [[ -f $library ]] || fail "there is no $(realpath -m --relative-to="$PWD" "$library"): build it with \`rt staticlib post\`, or name standin"
+  x86_64_code
+}
+
+# The compiler of x86-64 code, and what runs it here.
+x86_64_code() {
   [[ $(uname -m) == x86_64 ]] && return 0
   compiler=x86_64-linux-gnu-g++
   need "$compiler" g++-x86-64-linux-gnu

@@ -1,5 +1,6 @@
-// How many rounds of spreading Judge needs, and how many full sweeps it would need, counted by the plain C++ of both: over random plans of up to 12 points and
-// 5 links, then of any size, and then by climbing, which changes a plan a little and keeps the change if it needs no fewer.
+// How many rounds of spreading Judge needs, and how many full sweeps it would need, counted by the plain C++ of both: of the plans that docs/SPEED.md names,
+// which must need what it says, then over random plans of up to 12 points and 5 links, then of any size, and then by climbing, which changes a plan a little
+// and keeps the change if it needs no fewer.
 #include <algorithm>
 
 #include "random.hpp"
@@ -120,10 +121,38 @@ void climb(const Way &way, const Budget &budget, std::uint32_t n, std::uint32_t 
   }
 }
 
+// Plans of which docs/SPEED.md says how many rounds and sweeps they take.
+struct Named {
+  const char *what;
+  Plan plan;
+  bool controllable;
+  unsigned rounds, sweeps;
+};
+const Named named[] = {
+    // Climbing stops at one round above the number of links; nothing in the rules does.
+    {"two rounds above its 4 links", {9, {{1, 4, 70}, {4, 1, -52}, {2, 6, 5}, {5, 8, 40}}, {{5, 6, 3, 40}, {2, 3, 1, 10}, {3, 4, 1, 10}, {7, 8, 3, 103}}}, true, 6, 6},
+    {"strict cells that fall for ever", {4, {{2, 3, -3}}, {{3, 2, 1, 7}, {0, 1, 2, 7}}}, false, 0, 1},
+};
+
+void count_named() {
+  for (const Named &one : named) {
+    const Judged rounds = judge(by_rounds, one.plan), sweeps = judge(by_sweeps, one.plan);
+    std::printf("  %s: %s, rounds %u, sweeps %u\n    %s\n", one.what, rounds.controllable ? "controllable" : "uncontrollable", rounds.sweeps, sweeps.sweeps,
+                notation(one.plan).c_str());
+    const bool verdict = reference::settle(one.plan, most_weight).controllable;
+    if (rounds.sweeps == one.rounds && sweeps.sweeps == one.sweeps && rounds.controllable == one.controllable && sweeps.controllable == one.controllable &&
+        verdict == one.controllable)
+      continue;
+    std::printf("DIFFERENCE: docs/SPEED.md has %s, rounds %u, sweeps %u of this plan\n", one.controllable ? "controllable" : "uncontrollable", one.rounds, one.sweeps);
+    std::exit(1);
+  }
+}
+
 }  // namespace
 
 int main(int words, char **word) {
   Budget budget(words, word, 30000);
+  count_named();
   Most small[] = {{by_rounds}, {by_sweeps}}, any[] = {{by_rounds}, {by_sweeps}};
   while (budget.more()) {
     Random random = budget.round();

@@ -1,23 +1,27 @@
 /*
  * post.h: an alarm post checks for itself what it was sent.
  *
- * The archive libpost.a is for x86-64 Linux (System V calling convention) and links only into programs for it. It needs no heap, no
- * thread, no file and no set-up, and it holds no state: a call's answer follows from what is lent to it and from nothing else, and
- * calls may run at the same time. Every call is proved to end and to answer as below for every input that keeps to "What is lent".
+ * The archive libpost.a is for x86-64 Linux (System V calling convention) and links only into programs for it. It needs
+ * no heap, no thread, no file and no set-up, and it holds no state: a call's answer follows from what is lent to it and
+ * from nothing else, and calls may run at the same time. Every call is proved to end and to answer as below for every
+ * input that keeps to "What is lent".
  *
- * WHAT IS LENT. A slice is a pointer and a length, and the length counts elements, not bytes. You lend it for the time of the call: the
- * call keeps no pointer, reads nothing outside the slices, and writes nothing unless this file says so at that call. On your side:
- *   - the pointer is not NULL and is aligned for its type (4 bytes for int32_t, 8 for int64_t), also where the length is 0;
+ * WHAT IS LENT. A slice is a pointer and a length, and the length counts elements, not bytes. You lend it for the time
+ * of the call: the call keeps no pointer, reads nothing outside the slices, and writes nothing unless this file says so
+ * at that call. On your side:
+ *   - the pointer is not NULL and is aligned for its type (4 bytes for int32_t, 8 for int64_t), also where the length
+ *     is 0;
  *   - all the elements it promises are there and have been written once;
- *   - nobody writes them while the call runs. Slices that are only read may overlap. A slice that a call may write overlaps no other slice
- *     of that call, and nobody else reads it while the call runs.
+ *   - nobody writes them while the call runs. Slices that are only read may overlap. A slice that a call may write
+ *     overlaps no other slice of that call, and nobody else reads it while the call runs.
  *
- * A PLAN FILE is bytes as they came: little-endian 32-bit fields, a header of 24 bytes, then the limits, then the links. It is read where it
- * lies, at any alignment, and is never copied. The largest has 12,824 bytes. Any bytes may be lent: what is not a plan file is refused
- * with its code.
+ * A PLAN FILE is bytes as they came: little-endian 32-bit fields, a header of 24 bytes, then the limits, then the
+ * links. It is read where it lies, at any alignment, and is never copied. The largest has 12,824 bytes. Any bytes may
+ * be lent: what is not a plan file is refused with its code.
  *
- * A TABLE has n x n cells of int32_t for a plan of n points, in rows: the cell from x to y stands at x * n + y. A cell is a number of
- * seconds, or POST_MARK where there is no path. A slice may be longer than n x n; the cells beyond are not read.
+ * A TABLE has n x n cells of int32_t for a plan of n points, in rows: the cell from x to y stands at x * n + y. A cell
+ * is a number of seconds, or POST_MARK where there is no path. A slice may be longer than n x n; the cells beyond are
+ * not read.
  *
  * ROW ACCESS is an index. Row x of a table of n points is
  *
@@ -42,24 +46,31 @@ extern "C" {
 #define POST_REACH 63000000
 
 /*
- * An answer is one 64-bit number: the code in the low 32 bits, the place in the high 32. The place is 0 unless it is named here. Where several
- * codes would fit, the order is: 1 to 5; 6, by the limits' order in the file, then for the limit handed to post_add; then by the links' order 7 and 8 of
- * each link; 9; 10; 11 and 12, each in the order that its call gives.
+ * An answer is one 64-bit number: the code in the low 32 bits, the place in the high 32. The place is 0 unless it is
+ * named here. Where several codes would fit, the order is: 1 to 5; 6, by the limits' order in the file, then for the
+ * limit handed to post_add; then by the links' order 7 and 8 of each link; 9; 10; 11 and 12, each in the order that its
+ * call gives.
  */
 enum post_code {
-    POST_DONE = 0,             /* done, or accepted */
-    POST_FEW_BYTES = 1,        /* the file has fewer than 24 bytes */
-    POST_BAD_VERSION = 2,      /* the file's version is not 1 */
-    POST_BAD_POINTS = 3,       /* the number of points is not 1 to 64 */
-    POST_BAD_COUNTS = 4,       /* more than 1,024 limits or more than 32 links */
-    POST_BAD_LAYOUT = 5,       /* an offset or the file's length is not as laid down */
-    POST_BAD_LIMIT = 6,        /* a limit out of range; place: index of the first; for the limit handed to post_add: the number of the file's limits */
-    POST_BAD_LINK = 7,         /* a link out of range; place: its index */
-    POST_REPEATED_LINK = 8,    /* a link repeats an earlier one's contingent point; place: the later index */
-    POST_SHORT_ROOM = 9,       /* a lent slice is shorter than needed: n x n cells in each table, 2 x n x n in a scratch */
-    POST_HAS_LINKS = 10,       /* post_earliest: the plan has links */
-    POST_NOT_CONTROLLABLE = 11, /* the plan cannot be carried out whatever the durations are; post_add: not with the new limit; post_check gives 12 instead */
-    POST_NOT_CLOSED = 12       /* the tables are not closed for the plan: do not use them; post_add: also a result beyond POST_REACH */
+    POST_DONE = 0,              /* done, or accepted */
+    POST_FEW_BYTES = 1,         /* the file has fewer than 24 bytes */
+    POST_BAD_VERSION = 2,       /* the file's version is not 1 */
+    POST_BAD_POINTS = 3,        /* the number of points is not 1 to 64 */
+    POST_BAD_COUNTS = 4,        /* more than 1,024 limits or more than 32 links */
+    POST_BAD_LAYOUT = 5,        /* an offset or the file's length is not as laid down */
+    POST_BAD_LIMIT = 6,         /* a limit out of range; place: index of the first; for the limit handed to post_add:
+                                   the number of the file's limits */
+    POST_BAD_LINK = 7,          /* a link out of range; place: its index */
+    POST_REPEATED_LINK = 8,     /* a link repeats an earlier one's contingent point; place: the later index */
+    POST_SHORT_ROOM = 9,        /* a lent slice is shorter than needed: n x n cells in each table, 2 x n x n in the
+                                   scratch of post_add, n times of post_earliest */
+    POST_HAS_LINKS = 10,        /* post_earliest: the plan has links */
+    POST_NOT_CONTROLLABLE = 11, /* not for every choice of durations: whatever is done, there are durations within their
+                                   bounds, known only once they have passed, for which a limit is broken; without
+                                   links: no timetable meets the limits; post_add: so with the new limit; post_check
+                                   gives 12 instead */
+    POST_NOT_CLOSED = 12        /* the tables are not closed for the plan: do not use them; post_add: also a result
+                                   beyond POST_REACH */
 };
 
 static inline uint32_t post_code_of(uint64_t answer) { return (uint32_t)answer; }
@@ -68,56 +79,73 @@ static inline uint32_t post_place_of(uint64_t answer) { return (uint32_t)(answer
 /*
  * Check: whether two tables that somebody sent are closed for a plan file.
  *
- *   0        accepted. The tables are closed for the plan: no cell promises more than the plan's limits and links allow, so no way through
- *            the plan can be worse than its cell says. Such tables exist only for a plan that can be carried out however long each
- *            download and restart takes within its bounds.
+ *   0        accepted. The tables are closed for the plan: no cell promises more than the plan's limits and links
+ *            allow, so no way through the plan can be worse than its cell says. Such tables exist only for a plan that
+ *            can be carried out however long each download and restart takes within its bounds.
  *   1 to 8   the file is refused; the tables were not looked at
  *   9        a table has fewer than n x n cells
- *   12       the tables are not closed. Tables for a plan that cannot be carried out are always refused so.
+ *   12       the tables are not closed. Tables for a plan that post_judge refuses with 11 are always refused so.
  *
- * Lent: the file (file_len bytes), the strict table (strict_len cells), the open table (open_len cells). Nothing is written.
- * Time: at most about 2 x n x n x n additions and comparisons, half a million for 64 points; it stops at the first cell that is wrong.
+ * Lent: the file (file_len bytes), the strict table (strict_len cells), the open table (open_len cells). Nothing is
+ * written.
+ * Time: at most about 2 x n x n x n additions and comparisons, half a million for 64 points. It stops at the first
+ * thing that is wrong; sums along a middle point it looks at by rows, and it finishes the row that it is in.
  */
 uint64_t post_check(const uint8_t *file, size_t file_len, const int32_t *strict, size_t strict_len, const int32_t *open, size_t open_len);
 
 /*
  * Judge: fills two tables from a plan file, or refuses the plan.
  *
- *   0        the plan can be carried out however long each download and restart takes within its bounds. The first n x n cells of both tables
- *            are the least totals; post_check accepts them with the same file
+ *   0        the plan can be carried out however long each download and restart takes within its bounds. The first
+ *            n x n cells of both tables are the least totals; post_check accepts them with the same file
  *   1 to 8   the file is refused; no cell changes
  *   9        a table has fewer than n x n cells; no cell changes
- *   11       the plan cannot be carried out; the first n x n cells of both tables hold POST_MARK
+ *   11       the plan cannot be carried out for every choice of durations: whatever is done, there are durations within
+ *            their bounds, known only once they have passed, for which a limit is broken. Without links: no timetable
+ *            meets the limits. The first n x n cells of both tables hold POST_MARK
  *
- * Lent: the file and both tables, which may hold anything and must not overlap. Cells beyond n x n never change. No other room is needed.
- * Time: a few sweeps of about 2 x n x n x n additions and comparisons; random plans of 64 points and 32 links needed at most nine.
+ * Lent: the file and both tables, which may hold anything and must not overlap. Cells beyond n x n never change. No
+ * other room is needed.
+ * Time: one pass of joins, n x n x n additions and comparisons. Then rounds over the links, until one changes nothing:
+ * each edge that a link yields and that lowers its cell goes through a table at once, at most n x n steps each, and
+ * every round looks at n x n cells of each table. The rounds are proved to end; no bound on their number is.
+ * Random plans of up to 64 points and 32 links needed at most 6, the benchmark's, which are tight, at most 7
+ * (docs/SPEED.md).
  */
 uint64_t post_judge(const uint8_t *file, size_t file_len, int32_t *strict, size_t strict_len, int32_t *open, size_t open_len);
 
 /*
  * Earliest: the earliest timetable of a plan without links.
  *
- *   0        both tables as post_judge fills them, and times[x] is the earliest time of point x: it meets every limit, point 0 is at 0, no time is
- *            below 0, and no timetable that meets the limits has an earlier time at any point
+ *   0        both tables as post_judge fills them, and times[x] is the earliest time of point x: it meets every limit,
+ *            point 0 is at 0, no time is below 0, and no timetable that meets the limits has an earlier time at any
+ *            point
  *   1 to 8   the file is refused; nothing changes
  *   9        a table has fewer than n x n cells, or there are fewer than n times; nothing changes
  *   10       the plan has links; nothing changes
- *   11       no timetable meets the limits; the first n x n cells of both tables hold POST_MARK, the times are unchanged
+ *   11       no timetable meets the limits; the first n x n cells of both tables hold POST_MARK, the times are
+ *            unchanged
  */
 uint64_t post_earliest(const uint8_t *file, size_t file_len, int32_t *strict, size_t strict_len, int32_t *open, size_t open_len, int32_t *times, size_t times_len);
 
 /*
  * Add: one more limit on two tables of a plan file. The limit says: point y comes at most w seconds after point x.
  *
- *   0        taken. Both tables are those of the plan that has every strict cell off the diagonal as a limit, and the new limit
+ *   0        taken. Both tables are those of the plan that has every strict cell off the diagonal as a limit, and the
+ *            new limit
  *   1 to 8   the file or the limit is refused; 6 with the number of the file's limits as its place is the new limit
  *   9        a table has fewer than n x n cells, or the scratch fewer than 2 x n x n
  *   12       the tables are not closed for the plan
- *   11       with the limit the plan cannot be carried out. The same limit is refused again at any later time.
- *   12       a cell of the result lies beyond POST_REACH. This never happens on tables that came from the same file by Judge and Add.
+ *   11       with the limit the plan cannot be carried out for every choice of durations: whatever is done, there are
+ *            durations within their bounds, known only once they have passed, for which a limit is broken. On tables
+ *            that came from post_judge and post_add with this file, the same limit is refused so again at any later
+ *            time.
+ *   12       a cell of the result lies beyond POST_REACH. This never happens on tables that came from post_judge and
+ *            post_add with this file.
  *
- * Lent: the file, both tables and a scratch (scratch_len cells of int64_t). The tables change with 0 only. The scratch may hold anything; it is
- * unchanged with 1 to 9, and else its first 2 x n x n cells are 0. Cells beyond the needed room never change.
+ * Lent: the file, both tables and a scratch (scratch_len cells of int64_t). The tables change with 0 only. The scratch
+ * may hold anything; it is unchanged with 1 to 9, and else its first 2 x n x n cells are 0. Cells beyond the needed
+ * room never change.
  */
 uint64_t post_add(const uint8_t *file, size_t file_len, uint32_t x, uint32_t y, int32_t w, int32_t *strict, size_t strict_len, int32_t *open, size_t open_len, int64_t *scratch, size_t scratch_len);
 

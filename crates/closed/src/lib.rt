@@ -1,6 +1,7 @@
 // The closed test: whether two lent tables are closed for the plan of a sound file, exactly. Each file below holds one part of the
-// paper's sentence "Tables are closed for a plan if ..", as small functions with one loop each that stop at the first violation;
-// what each decides is said by specs/Parts.antt. The ranges come first, so that later no sum leaves its type.
+// paper's sentence "Tables are closed for a plan if ..", as small functions with one loop each; what each decides is said by
+// specs/Parts.antt. They stop at the first violation, save that a row of sums along a middle point is looked at to its end
+// (joins.rt says why). The ranges come first, so that later no sum leaves its type.
 mod bounds;
 mod given;
 mod joins;

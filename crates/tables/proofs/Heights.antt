@@ -1,4 +1,5 @@
--- The measure of the sweeps: lowering a table never raises the sum of its heights, and where the sum stays, the table stays. Assumes nothing.
+-- The measure of rounds and sweeps: lowering a table never raises the sum of its heights, and where the sum stays, the table
+-- stays. Assumes nothing.
 use mathlib.Core.Path.{_≡_, refl, sym, ap, subst}
 use mathlib.Core.Logic.{⊎-elim}
 use mathlib.Core.List.{List}

@@ -1,5 +1,6 @@
--- A joined table stays joined when an edge is spread through it. First what every cell is after: the way over the edge, as a sweep stores it, or the cell as it was,
--- whichever is smaller. Then joins: a way over the edge twice goes round a closed walk of at least 0. Over any coherent ranges. Assumes nothing.
+-- A joined table stays joined when an edge is spread through it. First what every cell is after: the way over the edge, as
+-- it is stored, or the cell as it was, whichever is smaller. Then joins: a way over the edge twice goes round a closed walk
+-- of at least 0. Over any coherent ranges. Assumes nothing.
 use mathlib.Core.Path.{_≡_, refl, sym, ap, subst, _∙_}
 use mathlib.Core.Bool.{Bool, true, false, cond, true≢false}
 use mathlib.Core.Logic.{_⊎_, inl, inr, ⊎-elim, _≢_}

@@ -1,4 +1,5 @@
--- What a sound file with its counts gives the sweep and the closed test, without looking at bytes again. Assumes nothing.
+-- What a sound file with its counts gives the rounds, the sweep and the closed test, without looking at bytes again.
+-- Assumes nothing.
 use mathlib.Core.Path.{_≡_, sym, subst, _∙_}
 use mathlib.Core.List.{List, List·Memᴰ}
 use Prim.Native.Nat.{ℕ, _≤_, _<_}

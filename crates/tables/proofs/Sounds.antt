@@ -1,5 +1,5 @@
--- What each part of a round and of the first tables leaves is again a table that a sweep stores: stated of the list that the code left, at version 1's
--- ranges. Assumes nothing.
+-- What each part of a round and of the first tables leaves is again a table of stored cells: stated of the list that the
+-- code left, at version 1's ranges. Assumes nothing.
 use mathlib.Core.Path.{_≡_, refl}
 use mathlib.Core.List.{List}
 use Prim.Native.Nat.{ℕ, zero, _*_, _≤_, _<_}

@@ -1,4 +1,4 @@
--- How the sweeps end where the plan has no tables. Assumes nothing.
+-- How the rounds end where the plan has no tables. Assumes nothing.
 use mathlib.Core.List.{List}
 use lib.IntN.{ℤ}
 use Rattle.rules.specs.Plan.{Plan}

@@ -1,4 +1,5 @@
--- What is looked at in both tables after every sweep: no cell under the reach, no diagonal cell below 0. Assumes nothing.
+-- What is looked at in both tables in every round, and after every sweep of Add: no cell under the reach, no diagonal cell
+-- below 0. Assumes nothing.
 use mathlib.Core.Path.{_≡_}
 use mathlib.Core.Bool.{Bool, true, false}
 use mathlib.Core.List.{List}
