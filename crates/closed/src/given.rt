@@ -12,8 +12,8 @@ use crate::bounds::at_most;
 use cell::Cell32;
 use plan::Limit;
 use plan::Link;
-use plan::link_at;
 use reader::limit_of;
+use reader::link_of;
 
 // Whether the cell of a limit does not exceed it.
 fn limit_held(t: &[i32], n: usize, limit: Limit) -> bool
@@ -27,13 +27,13 @@ fn limit_held(t: &[i32], n: usize, limit: Limit) -> bool
 }
 
 // Every limit.
-pub fn limits_held(file: &[u8], n: usize, m: u32, t: &[i32]) -> bool
+pub fn limits_held(file: &[u8], n: usize, m: u32, k: u32, t: &[i32]) -> bool
     requires { ⌜ LimitsIn (now file) n m × (n * n ≤ length (now t)) × (n ≤ 64) ⌝ }
     ensures { λ r. ⌜ Decides r (LimitsHeld (limitAt (now (file .entry))) m (tableOf version1 n (now (t .entry)))) ⌝ }
 {
     let mut i = 0;
     while i < m {
-        let limit = limit_of(file, i);
+        let limit = limit_of(file, n, m, k, i);
         if !limit_held(t, n, limit) {
             return false;
         }
@@ -85,7 +85,7 @@ pub fn links_held(file: &[u8], n: usize, m: u32, k: u32, t: &[i32]) -> bool
 {
     let mut i = 0;
     while i < k {
-        let link = link_at(file, m, i);
+        let link = link_of(file, n, m, k, i);
         if !link_held(t, n, link) {
             return false;
         }

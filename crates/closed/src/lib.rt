@@ -49,7 +49,7 @@ fn strict_held(file: &[u8], n: usize, m: u32, k: u32, t: &[i32]) -> bool
     requires { ⌜ Ready (now file) n m k × Sound version1 n (now t) ⌝ }
     ensures { λ r. ⌜ Decides r (StrictHeld n (limitAt (now (file .entry))) m (linkAt (now (file .entry)) m) k (tableOf version1 n (now (t .entry)))) ⌝ }
 {
-    if !limits_held(file, n, m, t) {
+    if !limits_held(file, n, m, k, t) {
         return false;
     }
     if !starts_held(t, n) {

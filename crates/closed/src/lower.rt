@@ -9,7 +9,7 @@ ghost use Rattle.tables.specs.Table.{Sound};
 ghost use Rattle.closed.specs.Parts.{PairLowered, LinkLowered, AllLowered, LinksIn};
 use crate::bounds::at_most;
 use plan::Link;
-use plan::link_at;
+use reader::link_of;
 use tables::get;
 
 // A link and a link of another contingent point.
@@ -34,7 +34,7 @@ fn link_lowered(file: &[u8], n: usize, m: u32, k: u32, t: &[i32], link: Link) ->
 {
     let mut i = 0;
     while i < k {
-        let other = link_at(file, m, i);
+        let other = link_of(file, n, m, k, i);
         if !pair_lowered(t, n, link, other) {
             return false;
         }
@@ -50,7 +50,7 @@ pub fn all_lowered(file: &[u8], n: usize, m: u32, k: u32, t: &[i32]) -> bool
 {
     let mut i = 0;
     while i < k {
-        let link = link_at(file, m, i);
+        let link = link_of(file, n, m, k, i);
         if !link_lowered(file, n, m, k, t, link) {
             return false;
         }

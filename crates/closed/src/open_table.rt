@@ -10,7 +10,7 @@ ghost use Rattle.closed.specs.Parts.{RowUnder, AllUnder, CaseHeld, Cases
 use crate::bounds::at_most;
 use cell::Cell32;
 use plan::Link;
-use plan::link_at;
+use reader::link_of;
 use tables::get;
 
 // Whether the open cell x to y does not exceed the strict one.
@@ -68,7 +68,7 @@ pub fn cases_held(file: &[u8], n: usize, m: u32, k: u32, t: &[i32]) -> bool
 {
     let mut i = 0;
     while i < k {
-        let link = link_at(file, m, i);
+        let link = link_of(file, n, m, k, i);
         if !case_held(t, n, link) {
             return false;
         }

@@ -9,7 +9,7 @@ ghost use Rattle.tables.specs.Table.{Sound};
 ghost use Rattle.closed.specs.Parts.{PointUppered, LinkUppered, AllUppered, LinksIn};
 use crate::bounds::at_most;
 use plan::Link;
-use plan::link_at;
+use reader::link_of;
 use tables::get;
 
 // A link and the point x.
@@ -45,7 +45,7 @@ pub fn all_uppered(file: &[u8], n: usize, m: u32, k: u32, t: &[i32]) -> bool
 {
     let mut i = 0;
     while i < k {
-        let link = link_at(file, m, i);
+        let link = link_of(file, n, m, k, i);
         if !link_uppered(t, n, link) {
             return false;
         }

@@ -1,7 +1,8 @@
 -- Limit i and link i of a reader are the plan's, and are fixed for every other i too: what `made`, `limit` and `link` promise gives `Counts`, `IsLimit` and `IsLink`.
+-- What `counted` gives with a file's own counts is the same reader.
 -- Of a sound file each below its count is a member of the plan's list and in range, and every link past the last is all 0.
 -- Assumes nothing.
-use mathlib.Core.Path.{_≡_, sym, ap, _∙_}
+use mathlib.Core.Path.{_≡_, refl, sym, ap, subst, _∙_}
 use mathlib.Core.List.{List, List·Memᴰ}
 use Prim.Native.Nat.{ℕ, zero, suc, _+_, _≤_, _<_}
 use native.Mathlib.Omega.{arith}
@@ -15,7 +16,7 @@ use Rattle.plan.specs.Layout.{headOf, limitOffset, linkOffset, limitAt, linkAt,
 use Rattle.plan.specs.File.{fileAnswer}
 use Rattle.plan.proofs.Good.{good, limits-length, links-length, points-is, limit-ranged, link-ranged}
 use Rattle.reader.specs.declared.PlanReader.{PlanReader}
-use Rattle.reader.specs.Reads.{ReaderOf, Counts, noLimit, noLink, IsLimit, IsLink}
+use Rattle.reader.specs.Reads.{holding, ReaderOf, Counts, noLimit, noLink, IsLimit, IsLink}
 
 -- the record at index i of a list of records
 at-index : {A : Type 0} (f : ℕ → A) (from n i : ℕ) (other : A) → i < n → f (from + i) ≡ getD (records f from n) i other
@@ -56,21 +57,26 @@ planned-link s i l other = ap (linkAt s (headOf s .limits)) (omega arith) ∙ at
 pub limit-is : (s : List ℕ) (i : ℕ) {x : Limit} → x ≡ limitAt s i → IsLimit s i x
 limit-is s i e = record { lies = e; plan = λ l other. e ∙ planned-limit s i l other; past = λ l. e ∙ limit-past s i l }
 
-pub link-is : (s : List ℕ) (i : ℕ) {x : Link} → x ≡ linkAt s (headOf s .limits) i → IsLink s i x
-link-is s i e = record { lies = e; plan = λ l other. e ∙ planned-link s i l other; past = λ l. e ∙ link-past s (headOf s .limits) i l }
+pub link-is : (s : List ℕ) (m i : ℕ) {x : Link} → m ≡ headOf s .limits → x ≡ linkAt s m i → IsLink s i x
+link-is s m i {x} counts e = record { lies = lies; plan = λ l other. lies ∙ planned-link s i l other; past = λ l. lies ∙ link-past s (headOf s .limits) i l }
+  where
+    lies : x ≡ linkAt s (headOf s .limits) i
+    lies = e ∙ ap (λ (c : ℕ). linkAt s c i) counts
 
--- ---- through a reader: what `made` promises of r, with what `limit` and `link` promise of x
+-- ---- through a reader: what `made` or `counted` promises of r, with what `limit` and `link` promise of x
 
-pub counted : (file : RefT (List ℕ)) (r : PlanReader) → ReaderOf file r → Counts (planOf (now file)) r
-counted file r e =
-    record { points = e .1 ∙ sym (points-is (now file)); limits = e .2 ∙ sym (limits-length (now file)); links = e .3 ∙ sym (links-length (now file)) }
+-- with a file's own counts `counted` gives the reader that `made` gives
+pub own-counts : (file : RefT (List ℕ)) (n m k : ℕ) {r : PlanReader} → n ≡ headOf (now file) .points → m ≡ headOf (now file) .limits → k ≡ headOf (now file) .links → r ≡ holding file n m k → ReaderOf file r
+own-counts file n m k points limits links e = cc
+
+pub counts-are : (file : RefT (List ℕ)) (r : PlanReader) → ReaderOf file r → Counts (planOf (now file)) r
+counts-are file r e = subst (Counts (planOf (now file))) (sym e) record { points = sym (points-is (now file)); limits = sym (limits-length (now file)); links = sym (links-length (now file)) }
 
 pub reader-limit : (file : RefT (List ℕ)) (r : PlanReader) (i : ℕ) {x : Limit} → ReaderOf file r → x ≡ limitAt (now (r .file)) i → IsLimit (now file) i x
-reader-limit file r i e said = limit-is (now file) i (said ∙ ap (λ (f : RefT (List ℕ)). limitAt (now f) i) (e .0))
+reader-limit file r i e said = limit-is (now file) i (said ∙ ap (λ (q : PlanReader). limitAt (now (q .file)) i) e)
 
 pub reader-link : (file : RefT (List ℕ)) (r : PlanReader) (i : ℕ) {x : Link} → ReaderOf file r → x ≡ linkAt (now (r .file)) (r .m) i → IsLink (now file) i x
-reader-link file r i e said =
-    link-is (now file) i (said ∙ (ap (λ (f : RefT (List ℕ)). linkAt (now f) (r .m) i) (e .0) ∙ ap (λ (m : ℕ). linkAt (now file) m i) (e .2)))
+reader-link file r i e said = link-is (now file) (headOf (now file) .limits) i refl (said ∙ ap (λ (q : PlanReader). linkAt (now (q .file)) (q .m) i) e)
 
 -- ---- of a sound file
 

@@ -10,11 +10,15 @@ use Rattle.rules.specs.Plan.{Limit, Link, Plan}
 use Rattle.plan.specs.Layout.{headOf, limitOffset, linkOffset, limitAt, linkAt, planOf}
 use Rattle.reader.specs.declared.PlanReader.{PlanReader}
 
--- "a thin reader struct holding the plan slice with n, m, k": the file itself, and its header's counts
-abbrev pub ReaderOf : RefT (List ℕ) → PlanReader → Type 0
-ReaderOf file r = (r .file ≡ file) × (r .n ≡ headOf (now file) .points) × (r .m ≡ headOf (now file) .limits) × (r .k ≡ headOf (now file) .links)
+-- "a thin reader struct holding the plan slice with n, m, k": the file itself, and the counts at hand
+abbrev pub holding : RefT (List ℕ) → ℕ → ℕ → ℕ → PlanReader
+holding file n m k = record { file = file; n = n; m = m; k = k }
 
--- a reader's counts are a plan's
+-- "The header holds counts and offsets": a file's own reader, with the counts of its header
+abbrev pub ReaderOf : RefT (List ℕ) → PlanReader → Type 0
+ReaderOf file r = r ≡ holding file (headOf (now file) .points) (headOf (now file) .limits) (headOf (now file) .links)
+
+-- "points n, limits m, links k": a reader's counts are a plan's
 pub record Counts (p : Plan) (r : PlanReader) : Type 0 where
   pub points : r .n ≡ p .points
   pub limits : r .m ≡ length (p .limits)

@@ -17,7 +17,7 @@ use Rattle.whole.proofs.Order.{ints, neg}
 use Rattle.whole.proofs.Bits.{signed, back}
 use Rattle.rules.specs.Plan.{Limit, Link, Ranges, version1, LimitInRange}
 use Rattle.rules.specs.Cells.{mark, num, cellOf}
-use Rattle.plan.specs.Layout.{headOf, limitAt, linkAt}
+use Rattle.plan.specs.Layout.{limitAt}
 use Rattle.cell.specs.Steps.{cell32}
 use Rattle.cell.proofs.Laws.{room32, in-range, weight-number, negation-fits}
 use Rattle.tables.specs.Table.{Sound, Ready}
@@ -128,10 +128,6 @@ open-cell-is r n strict x y t u c ec eu = lowering-by r n x y t u c (read-cell r
 -- a limit that was read is in range
 pub limit-read : {s : List ℕ} {n m k : ℕ} → Ready s n m k → (i : ℕ) → i < m → {l : Limit} → l ≡ limitAt s i → LimitInRange version1 n l
 limit-read {s} {n} {m} {k} r i h e = rw e (limit-range s n m k r i h)
-
--- a link read through the file's reader, which counts the limits itself, is the one behind m limits
-pub link-through : {s : List ℕ} {n m k : ℕ} → Ready s n m k → (i : ℕ) → {a : Link} → a ≡ linkAt s (headOf s .limits) i → a ≡ linkAt s m i
-link-through {s} r i e = e ∙ ap (λ (m : ℕ). linkAt s m i) (sym (r .limits))
 
 -- both ordinary edges of a link, one after the other
 pub edges-are : (r : Ranges) (n : ℕ) (a : Link) (t u v : List ℤ) (long short : ℤ) → cellOf (r .mark) long ≡ num (pos (a .long))

@@ -9,7 +9,7 @@ ghost use Rattle.tables.specs.Spread.{lowerEdge, lowerEdges, lowerRound}
 use crate::get;
 use crate::spreading::new_edge;
 use plan::Link;
-use plan::link_at;
+use reader::link_of;
 
 // For the link a and the contingent point of the link b, if another.
 fn lower_edge(t: &mut [i32], n: usize, a: Link, b: Link)
@@ -31,10 +31,10 @@ fn lower_edges(file: &[u8], n: usize, m: u32, k: u32, t: &mut [i32], i: u32)
     requires { ⌜ (i < k) × Ready (now file) n m k × Sound version1 n (now t) ⌝ }
     ensures { λ r. ⌜ now (t .exit) ≡ lowerEdges version1 n (linkAt (now (file .entry)) m) k (linkAt (now (file .entry)) m i) (now (t .entry)) ⌝ }
 {
-    let a = link_at(file, m, i);
+    let a = link_of(file, n, m, k, i);
     let mut j = 0;
     while j < k {
-        let b = link_at(file, m, j);
+        let b = link_of(file, n, m, k, j);
         lower_edge(t, n, a, b);
         j += 1;
     }

@@ -11,7 +11,7 @@ use crate::get;
 use crate::spreading::new_edge;
 use cell::Cell32;
 use plan::Link;
-use plan::link_at;
+use reader::link_of;
 
 // The first cells of the strict table, copied.
 pub fn copy_all(strict: &[i32], t: &mut [i32], count: usize)
@@ -43,7 +43,7 @@ pub fn case_edges(file: &[u8], n: usize, m: u32, k: u32, t: &mut [i32])
 {
     let mut i = 0;
     while i < k {
-        let a = link_at(file, m, i);
+        let a = link_of(file, n, m, k, i);
         case_edge(t, n, a);
         i += 1;
     }
@@ -65,10 +65,10 @@ fn follow_lowers(file: &[u8], n: usize, m: u32, k: u32, strict: &[i32], t: &mut 
     requires { ⌜ (i < k) × Ready (now file) n m k × (n * n ≤ length (now strict)) × Sound version1 n (now t) ⌝ }
     ensures { λ r. ⌜ now (t .exit) ≡ followLowers version1 n (now (strict .entry)) (linkAt (now (file .entry)) m) k (linkAt (now (file .entry)) m i) (now (t .entry)) ⌝ }
 {
-    let a = link_at(file, m, i);
+    let a = link_of(file, n, m, k, i);
     let mut j = 0;
     while j < k {
-        let b = link_at(file, m, j);
+        let b = link_of(file, n, m, k, j);
         follow_lower(strict, t, n, a, b);
         j += 1;
     }
@@ -102,7 +102,7 @@ fn follow_link(file: &[u8], n: usize, m: u32, k: u32, strict: &[i32], t: &mut [i
     ensures { λ r. ⌜ now (t .exit) ≡ followLink version1 n (now (strict .entry)) (linkAt (now (file .entry)) m) k (linkAt (now (file .entry)) m i) (now (t .entry)) ⌝ }
 {
     follow_lowers(file, n, m, k, strict, t, i);
-    let a = link_at(file, m, i);
+    let a = link_of(file, n, m, k, i);
     follow_uppers(strict, t, n, a);
 }
 

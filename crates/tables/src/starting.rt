@@ -69,7 +69,7 @@ fn limit_all(file: &[u8], n: usize, m: u32, k: u32, t: &mut [i32])
 {
     let mut i = 0;
     while i < m {
-        let l = limit_of(file, i);
+        let l = limit_of(file, n, m, k, i);
         limit_cell(t, n, l);
         i += 1;
     }
@@ -93,7 +93,7 @@ fn link_all(file: &[u8], n: usize, m: u32, k: u32, t: &mut [i32])
 {
     let mut i = 0;
     while i < k {
-        let a = link_of(file, i);
+        let a = link_of(file, n, m, k, i);
         link_edges(t, n, a);
         i += 1;
     }

@@ -9,7 +9,7 @@ ghost use Rattle.tables.specs.Spread.{upperEdge, upperEdges, upperRound}
 use crate::get;
 use crate::spreading::new_edge;
 use plan::Link;
-use plan::link_at;
+use reader::link_of;
 
 // For the link a, from the point x.
 fn upper_edge(t: &mut [i32], n: usize, a: Link, x: usize)
@@ -41,7 +41,7 @@ pub fn upper_round(file: &[u8], n: usize, m: u32, k: u32, t: &mut [i32])
 {
     let mut i = 0;
     while i < k {
-        let a = link_at(file, m, i);
+        let a = link_of(file, n, m, k, i);
         upper_edges(t, n, a);
         i += 1;
     }

@@ -10,7 +10,7 @@ ghost use Rattle.tables.specs.Sweep.{lowerPair, lowerLink, lowerAll};
 use crate::get;
 use crate::lower_cell;
 use plan::Link;
-use plan::link_at;
+use reader::link_of;
 
 // For the link a and the contingent point of the link b, if another.
 fn lower_pair(t: &mut [i64], n: usize, a: Link, b: Link)
@@ -32,10 +32,10 @@ fn lower_link(file: &[u8], n: usize, m: u32, k: u32, t: &mut [i64], i: u32)
     requires { ⌜ (i < k) × Ready (now file) n m k × Sound adding n (now t) ⌝ }
     ensures { λ r. ⌜ now (t .exit) ≡ lowerLink adding n (linkAt (now (file .entry)) m) k (linkAt (now (file .entry)) m i) (now (t .entry)) ⌝ }
 {
-    let a = link_at(file, m, i);
+    let a = link_of(file, n, m, k, i);
     let mut j = 0;
     while j < k {
-        let b = link_at(file, m, j);
+        let b = link_of(file, n, m, k, j);
         lower_pair(t, n, a, b);
         j += 1;
     }

@@ -10,7 +10,7 @@ ghost use Rattle.tables.specs.Sweep.{caseLink, caseAll};
 use crate::lower_cell;
 use cell::wide::Cell64;
 use plan::Link;
-use plan::link_at;
+use reader::link_of;
 
 // The cell of a link under its lower-case edge.
 fn case_link(t: &mut [i64], n: usize, a: Link)
@@ -29,7 +29,7 @@ pub fn case_all(file: &[u8], n: usize, m: u32, k: u32, t: &mut [i64])
 {
     let mut i = 0;
     while i < k {
-        let a = link_at(file, m, i);
+        let a = link_of(file, n, m, k, i);
         case_link(t, n, a);
         i += 1;
     }

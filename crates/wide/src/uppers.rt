@@ -10,7 +10,7 @@ ghost use Rattle.tables.specs.Sweep.{upperCell, upperPoint, upperAll};
 use crate::get;
 use crate::lower_cell;
 use plan::Link;
-use plan::link_at;
+use reader::link_of;
 
 // From the point x, for the link a.
 fn upper_cell(t: &mut [i64], n: usize, x: usize, a: Link)
@@ -30,7 +30,7 @@ fn upper_point(file: &[u8], n: usize, m: u32, k: u32, t: &mut [i64], x: usize)
 {
     let mut i = 0;
     while i < k {
-        let a = link_at(file, m, i);
+        let a = link_of(file, n, m, k, i);
         upper_cell(t, n, x, a);
         i += 1;
     }

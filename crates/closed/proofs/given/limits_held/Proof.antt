@@ -13,10 +13,10 @@ use Rattle.closed.proofs.given.limits_held.Statement.{statement}
 use Rattle.closed.proofs.given.limits_held.Tie as tie
 
 abbrev Inv-loop : tie.InvT-loop
-Inv-loop file n m t i₀ i = Passed m (λ i. LimitHeld (tableOf version1 n t) (limitAt file i)) i
+Inv-loop file n m k t i₀ i = Passed m (λ i. LimitHeld (tableOf version1 n t) (limitAt file i)) i
 
 abbrev μ-loop : tie.MeasureT-loop
-μ-loop file n m t i₀ i = m - i
+μ-loop file n m k t i₀ i = m - i
 
 loop-holds : tie.Need-loop-holds Inv-loop μ-loop
 loop-holds c = none-yet _ _

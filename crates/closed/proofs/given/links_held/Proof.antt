@@ -21,13 +21,13 @@ abbrev μ-loop : tie.MeasureT-loop
 loop-holds : tie.Need-loop-holds Inv-loop μ-loop
 loop-holds c = none-yet _ _
 
-link-at-requires : tie.Need-link-at-requires Inv-loop μ-loop
-link-at-requires c κs = search needs
+link-of-requires : tie.Need-link-of-requires Inv-loop μ-loop
+link-of-requires c κs = search needs
 
 link-held-requires : tie.Need-link-held-requires Inv-loop μ-loop
 link-held-requires c κs =
     let s = c .before .before .before .before in (
-      subst⁻¹ (LinkInRange version1 (s .args .n)) (c .link-at .ensures) (s .pre .0 (c .before .before .loop .i) (omega arith)),
+      subst⁻¹ (LinkInRange version1 (s .args .n)) (c .link-of .ensures) (s .pre .0 (c .before .before .loop .i) (omega arith)),
       s .pre .1,
       s .pre .2,
     )
@@ -37,7 +37,7 @@ returns c =
     let a = c .before .before .before .before .before .before .args in
     let loop = c .before .before .before .before .loop in
     one-failed _ _ (loop .i) (omega arith)
-    (decides-same (LinkHeld (tableOf version1 (a .n) (a .t .now))) (c .before .before .link-at .ensures) (c .before .link-held .ensures)) (c .if1 .taken)
+    (decides-same (LinkHeld (tableOf version1 (a .n) (a .t .now))) (c .before .before .link-of .ensures) (c .before .link-held .ensures)) (c .if1 .taken)
 
 add-i : tie.Need-add-i Inv-loop μ-loop
 add-i c = search needs
@@ -50,7 +50,7 @@ loop-again c =
     let a = c .before .before .before .before .before .before .args in
     let loop = c .before .before .before .before .loop in
     one-more _ _ (loop .i) (loop .inv) (omega arith)
-    (decides-same (LinkHeld (tableOf version1 (a .n) (a .t .now))) (c .before .before .link-at .ensures) (c .before .link-held .ensures)) (c .if1 .left)
+    (decides-same (LinkHeld (tableOf version1 (a .n) (a .t .now))) (c .before .before .link-of .ensures) (c .before .link-held .ensures)) (c .if1 .left)
 
 returns-2 : tie.Need-returns-2 Inv-loop μ-loop
 returns-2 c = all-passed _ _ (c .before .loop .i) (c .before .loop .inv) (omega arith)
@@ -58,4 +58,4 @@ returns-2 c = all-passed _ _ (c .before .loop .i) (c .before .loop .inv) (omega 
 pub links-held-spec : {M : Type 1} → statement M
 links-held-spec =
     tie.close
-    (tie.spec Inv-loop μ-loop loop-holds link-at-requires link-held-requires returns add-i loop-less loop-again returns-2)
+    (tie.spec Inv-loop μ-loop loop-holds link-of-requires link-held-requires returns add-i loop-less loop-again returns-2)

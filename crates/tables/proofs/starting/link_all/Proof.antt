@@ -8,7 +8,6 @@ use Rattle.plan.specs.Layout.{linkAt}
 use Rattle.tables.specs.Sweep.{linkEdges, linkAll}
 use Rattle.tables.proofs.Steps.{edges-lowers}
 use Rattle.tables.proofs.Links.{few, link-read, link-points, at-read}
-use Rattle.tables.proofs.Starts.{link-through}
 use Rattle.tables.proofs.Turns.{Turns, turns-none, turns-more, turns-all}
 use Rattle.tables.proofs.starting.link_all.Statement.{statement}
 use Rattle.tables.proofs.starting.link_all.Tie as tie
@@ -32,7 +31,7 @@ link-edges-requires c κs =
     let s = c .before .before .before .before .before in
     let loop = c .before .before .before .loop in
     let link-of = c .before .link-of in
-    (few (s .pre .0), link-read (s .pre .0) (loop .i) (omega arith) (link-through (s .pre .0) (loop .i) (link-of .ensures)), loop .inv .lowered .sound)
+    (few (s .pre .0), link-read (s .pre .0) (loop .i) (omega arith) (link-of .ensures), loop .inv .lowered .sound)
 
 add-i : tie.Need-add-i Inv-loop μ-loop
 add-i c = search needs
@@ -47,7 +46,7 @@ loop-again c =
     let link-of = c .before .before .before .link-of in
     let link-edges = c .before .link-edges in
     turns-more (edges-lowers version1 version1-coherent (s .args .n) (linkAt (s .args .file .now) (s .args .m)) (s .args .k) (link-points (s .pre .0))) (loop .inv) (omega arith)
-    (at-read (λ a. linkEdges version1 (s .args .n) a (loop .t)) (link-through (s .pre .0) (loop .i) (link-of .ensures)) (link-edges .ensures))
+    (at-read (λ a. linkEdges version1 (s .args .n) a (loop .t)) (link-of .ensures) (link-edges .ensures))
 
 same-length : tie.Need-same-length Inv-loop μ-loop
 same-length c = search needs
