@@ -1,4 +1,4 @@
--- `row` meets its contract: the row lies within its table. Assumes nothing.
+-- `row` meets its contract: the row lies within its table and is the table's own cells. Assumes nothing.
 use borrow.Author.Needs.{needs}
 use native.Mathlib.Nat.{add-sub-cancel-left}
 use native.Mathlib.Omega.{arith}
@@ -71,6 +71,7 @@ part-result-end-2 c =
     let f = fits (c .before .before) in
     omega (arith, row-end f)
 
+-- The numbers are shown by `cc`, which takes them from any list known to be equal: so equal numbers from elsewhere are refused at their place alone.
 returns-2 : tie.Need-returns-2
 returns-2 c =
     let t = c .before .before .before in
