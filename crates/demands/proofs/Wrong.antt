@@ -1,9 +1,9 @@
--- The paper's wrong programs meet the demands in no way. Three small files tell them apart from right ones: three points, no links, and no limit, the limit 0>1 10, or
--- that and 0>2 10. Assumes nothing.
+-- No program that behaves as one of the paper's wrong ones meets the demands, and there are such programs. Three small files tell them apart from right ones: three
+-- points, no links, and no limit, the limit 0>1 10, or that and 0>2 10. Assumes nothing.
 use mathlib.Core.Path.{_≡_, refl, sym, ap, _∙_, subst}
-use mathlib.Core.Logic.{_≢_, inl, inr, ⊎-elim}
+use mathlib.Core.Logic.{_≢_, ⊎-elim}
 use mathlib.Core.List.{List, [], _∷_, _++_, List·Memᴰ, List·Memᴰ·head, List·Memᴰ·tail, List·Memᴰ·not-nil, List·Memᴰ·cases-cons, List·Memᴰ·eq-of-singleton, List·Memᴰ·append-cases, Memᴰ·append-left}
-use Prim.Native.Nat.{ℕ, zero, suc, _≤_, _<_}
+use Prim.Native.Nat.{ℕ, zero, _≤_, _<_}
 use native.Mathlib.Omega.{arith}
 use lib.ListN.{length, getD}
 use lib.IntN.{ℤ, pos}
@@ -17,18 +17,17 @@ use Rattle.rules.specs.Edges.{Derivable}
 use Rattle.rules.specs.Walks.{Walk, stay, step, Uncontrollable}
 use Rattle.rules.specs.Cells.{Cell, mark, num, cellOf, tableOf}
 use Rattle.rules.specs.Tables.{Least, Tables}
-use Rattle.rules.specs.Times.{Meets}
 use Rattle.rules.specs.Additions.{withLimits}
-use Rattle.rules.specs.Calls.{cellsOf, scratchOf, RoomForTables}
+use Rattle.rules.specs.Calls.{scratchOf, RoomForTables}
 use Rattle.rules.specs.Demands.{AllIn}
 use Rattle.rules.proofs.Times.{met-controllable}
 use Rattle.rules.proofs.Walks.{single}
 use Rattle.fields.specs.Bytes.{wordAt, signedAt, signedOf}
-use Rattle.plan.specs.Layout.{headOf, limitAt, linkAt, planOf}
-use Rattle.plan.specs.File.{headAnswer, limitFits, linkFits, frontAnswer, fileAnswer}
+use Rattle.plan.specs.Layout.{headOf, limitAt, planOf}
+use Rattle.plan.specs.File.{headAnswer, limitFits, frontAnswer, fileAnswer}
 use Rattle.demands.specs.Programs.{AJudge, ACheck, AnAdd}
 use Rattle.demands.specs.Demand2.{Demand2}
-use Rattle.demands.specs.Demand3.{Desk, judged, taken, OneFile, OneFilesTables, Demand3}
+use Rattle.demands.specs.Demand3.{Desk, judged, taken, OneFile, Demand3}
 use Rattle.demands.specs.Wrong.{JudgeEnds, CheckEnds, AddEnds, RefusesEverything, RejectsEverything, OneTableForAll, WritesNothing, RefusesAll, OnlyItsFirst, WrongOnesShutOut, addSaying, WrongOnesExist}
 use Rattle.demands.proofs.Demand2.{not-done-refused, not-done-unclosed}
 
@@ -114,10 +113,11 @@ at-zero p e h =
     met-controllable p e (λ x. pos zero)
     (record { limit = λ m i. omega (ints, rises m (h m i), plus (pos zero) (m .weight)); start = refl; none-before = λ x i. omega ints })
 
--- a small file's plan, also with some of them more
+-- a small file's plan
 controllable : {s : List ℕ} {ms : List Limit} → Small s ms → AllIn ms few → Uncontrollable (planOf s) → ⊥
 controllable {s} k h = at-zero (planOf s) (k .links) (λ m i. h m (subst (List·Memᴰ m) (k .limits) i))
 
+-- and the plan without limits, with both of them more
 with-few : Uncontrollable (withLimits (planOf none) few) → ⊥
 with-few =
     at-zero (withLimits (planOf none) few) (small-none .links)

@@ -10,7 +10,6 @@ use lib.ListN.{length, getD}
 use lib.IntN.{ℤ, pos}
 use denote.Ref.{RefT, ptr, now}
 use Rattle.rules.specs.declared.Answer.{Answer}
-use Rattle.rules.specs.declared.Answer.the-variants.{Done, NotControllable}
 use Rattle.rules.specs.declared.Side.{Side}
 use Rattle.rules.specs.Plan.{Limit, version1}
 use Rattle.rules.specs.Answers.{codeOf, placeOf}
