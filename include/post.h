@@ -79,9 +79,9 @@ static inline uint32_t post_place_of(uint64_t answer) { return (uint32_t)(answer
 /*
  * Check: whether two tables that somebody sent are closed for a plan file.
  *
- *   0        accepted. The tables are closed for the plan: no cell promises more than the plan's limits and links
- *            allow, so no way through the plan can be worse than its cell says. Such tables exist only for a plan that
- *            can be carried out however long each download and restart takes within its bounds.
+ *   0        accepted. The tables are closed for the plan: no limit, no link and no sum along a middle point would
+ *            lower a cell, so no walk through the plan comes to less than its cell. Such tables exist only for a plan
+ *            that can be carried out however long each download and restart takes within its bounds.
  *   1 to 8   the file is refused; the tables were not looked at
  *   9        a table has fewer than n x n cells
  *   12       the tables are not closed. Tables for a plan that post_judge refuses with 11 are always refused so.
