@@ -11,7 +11,7 @@ use lib.Signed.{_≤ℤ_}
 use Rattle.whole.proofs.Order.{ints, plus}
 use Rattle.rules.specs.declared.Answer.{Answer}
 use Rattle.rules.specs.declared.Answer.the-variants.{Done, NotControllable, NotClosed}
-use Rattle.rules.specs.Plan.{Limit, Link, Plan, version1, LimitInRange}
+use Rattle.rules.specs.Plan.{Limit, Plan, version1, LimitInRange}
 use Rattle.rules.specs.Edges as edges
 use Rattle.rules.specs.Edges.{Derivable}
 use Rattle.rules.specs.Walks.{Walk, stay, step, Uncontrollable}
@@ -20,7 +20,7 @@ use Rattle.rules.specs.Tables.{Least, Tables}
 use Rattle.rules.specs.Additions.{withLimits}
 use Rattle.rules.specs.Calls.{scratchOf, RoomForTables}
 use Rattle.rules.specs.Demands.{AllIn}
-use Rattle.rules.proofs.Times.{met-controllable}
+use Rattle.rules.proofs.Times.{no-link, met-controllable}
 use Rattle.rules.proofs.Walks.{single}
 use Rattle.fields.specs.Bytes.{wordAt, signedAt, signedOf}
 use Rattle.plan.specs.Layout.{headOf, limitAt, planOf}
@@ -127,17 +127,14 @@ with-few =
 
 -- where no limit leads to a point, nothing does
 module _ (p : Plan) (links : p .links ≡ []) (y : ℕ) (off : y ≢ zero) (away : (m : Limit) → List·Memᴰ m (p .limits) → m .to ≢ y) where
-  no-link : {X : Type 0} {k : Link} → List·Memᴰ k (p .links) → X
-  no-link {k} h = absurd (List·Memᴰ·not-nil (subst (List·Memᴰ k) links h))
-
   no-edge : {x z : ℕ} {w : ℤ} → Derivable p x z w → z ≢ y
   no-edge (edges.given (edges.limit {m} h)) = away m h
   no-edge (edges.given (edges.start h)) = λ e. off (sym e)
-  no-edge (edges.given (edges.longest h)) = no-link h
-  no-edge (edges.given (edges.shortest h)) = no-link h
+  no-edge (edges.given (edges.longest h)) = no-link p links h
+  no-edge (edges.given (edges.shortest h)) = no-link p links h
   no-edge (edges.join a b) = no-edge b
-  no-edge (edges.lower h j l d) = no-link h
-  no-edge (edges.upper h d) = no-link h
+  no-edge (edges.lower h j l d) = no-link p links h
+  no-edge (edges.upper h d) = no-link p links h
 
   no-walk : {x z : ℕ} {t : ℤ} → Walk (Derivable p) x z t → x ≢ y → z ≢ y
   no-walk stay n = n

@@ -24,7 +24,7 @@ walk-met u m {x} {y = z} (step {y} {v} {w} e k) =
     omega (ints, m x y v e, walk-met u m k, plus (u x) v, plus (u y) w, plus v w, plus (u x) (v +ℤ w))
 
 module _ (p : Plan) (none : p .links ≡ []) where
-  no-link : {X : Type 0} {k : Link} → List·Memᴰ k (p .links) → X
+  pub no-link : {X : Type 0} {k : Link} → List·Memᴰ k (p .links) → X
   no-link {k} h = absurd (List·Memᴰ·not-nil (subst (λ (ks : List Link). List·Memᴰ k ks) none h))
 
   -- a timetable that meets the plan meets every derivable edge
