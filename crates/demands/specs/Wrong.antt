@@ -72,7 +72,7 @@ OnlyItsFirst Judge Add =
     → (m : Limit) (scratch : List ℤ) (a : Answer) (strict′ weak′ scratch′ : List ℤ) → Add s m strict weak scratch a strict′ weak′ scratch′
     → (a ≡ Done) × (strict′ ≡ strict) × (weak′ ≡ weak)
 
--- none of them meets the demands, whatever the other calls are
+-- none of them meets the demands, whatever the other calls are, as long as they end: what never answers would meet any demand
 pub record WrongOnesShutOut : Type 1 where
   -- "demand 2 shuts both out, by 'exactly'"
   pub refusing-judge : (Judge : AJudge) (Check : ACheck) → JudgeEnds Judge → RefusesEverything Judge → Demand2 Judge Check → ⊥
