@@ -1,3 +1,3 @@
 -- Laws behind Add.
-pub mod Answered
-pub mod Ruled
+pub mod AddAnswers
+pub mod AddFixed

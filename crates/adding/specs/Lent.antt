@@ -7,7 +7,7 @@ use lib.IntN.{ℤ}
 use Rattle.rules.specs.Plan.{Limit, version1, LimitInRange}
 use Rattle.rules.specs.declared.Answer.the-variants.{Done}
 use Rattle.plan.specs.File.{addAnswer}
-use Rattle.tables.specs.Table.{Ready}
+use Rattle.lowering.specs.Table.{Ready}
 
 -- codes 1 to 9 are past
 pub record Lent (s : List ℕ) (n m k : ℕ) (l : Limit) (strict weak scratch : List ℤ) : Type 0 where

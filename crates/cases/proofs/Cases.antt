@@ -15,13 +15,13 @@ use Rattle.rules.specs.Additions.{rowLimits, tableLimits, withCells}
 use Rattle.rules.specs.Calls.{cellsOf}
 use Rattle.rules.proofs.Demands.{version1-coherent}
 use Rattle.plan.specs.File.{limitFits, linkFits}
-use Rattle.tables.specs.Sweep.{lowerCell, joinCell, joinRow, joinMiddle, joinAll, lowerPair, lowerLink, lowerAll, upperCell, upperPoint, upperAll, openCell, openRow, openAll, caseLink, caseAll, sweepStrict, sweepOpen, markAll, diagonalAll, limitCell, limitAll, startAll, linkEdges, linkAll, firstStrict, firstOpen}
+use Rattle.lowering.specs.Sweep.{lowerCell, joinCell, joinRow, joinMiddle, joinAll, lowerPair, lowerLink, lowerAll, upperCell, upperPoint, upperAll, openCell, openRow, openAll, caseLink, caseAll, sweepStrict, sweepOpen, markAll, diagonalAll, limitCell, limitAll, startAll, linkEdges, linkAll, firstStrict, firstOpen}
 use Rattle.whole.specs.Signed.{larger}
 use Rattle.cases.specs.Case.{Verdict, refused, controllable, settled, takes, declines, Case, HasTables, Settled, Says, AllHold}
 use Rattle.cases.specs.Paper.{paper}
-use Rattle.cases.proofs.Tests.{is-true, both, every, every-true, eqList, eqList-is, eqCell, eqCell-is, rangeTest, Fit, range-fit}
-use Rattle.cases.proofs.Run.{Outcome, unknown, unfair, still, run, Right, run-right}
-use Rattle.cases.proofs.Adds.{Full, takes-says, declines-says}
+use Rattle.cases.proofs.ComputedTests.{is-true, both, every, every-true, eqList, eqList-is, eqCell, eqCell-is, rangeTest, Fit, range-fit}
+use Rattle.cases.proofs.SweepRun.{Outcome, unknown, unfair, still, run, Right, run-right}
+use Rattle.cases.proofs.AddRun.{Full, takes-says, declines-says}
 
 -- the times are minus the cells to the start
 abbrev early : Plan → List ℤ → List ℤ → Bool

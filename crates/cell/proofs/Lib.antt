@@ -1,2 +1,2 @@
-pub mod Laws
-pub mod Cells
+pub mod CellMethods
+pub mod StoredCells

@@ -5,7 +5,7 @@ ghost use Rattle.rules.specs.Plan.{version1};
 ghost use Rattle.rules.specs.Cells.{_≤ᶜ_, tableOf};
 ghost use Rattle.cell.specs.Steps.{cell32, Decides};
 use cell::Cell32;
-use tables::get;
+use joining::get;
 
 // Whether a cell does not exceed another, with the mark above every number.
 pub fn under(a: Cell32, b: Cell32) -> bool

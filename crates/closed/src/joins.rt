@@ -3,10 +3,10 @@ ghost use Prim.Native.Nat.{_≤_, _<_};
 ghost use Rattle.rules.specs.Plan.{version1};
 ghost use Rattle.rules.specs.Cells.{tableOf};
 ghost use Rattle.cell.specs.Steps.{Decides};
-ghost use Rattle.tables.specs.Table.{Sound};
+ghost use Rattle.lowering.specs.Table.{Sound};
 ghost use Rattle.closed.specs.Parts.{RowJoined, MiddleJoined, AllJoined};
 use crate::bounds::at_most;
-use tables::get;
+use joining::get;
 
 // Row x by the middle y, with the cell x to y taken out of the loop. Where there is no path to the middle, nothing is asked. Every cell of the row is looked at, so
 // that a compiler may take several at once.

@@ -17,7 +17,7 @@ ghost use Rattle.rules.specs.Cells.{tableOf};
 ghost use Rattle.rules.specs.Tables.{Closed};
 ghost use Rattle.plan.specs.Layout.{limitAt, linkAt, planOf};
 ghost use Rattle.cell.specs.Steps.{Decides};
-ghost use Rattle.tables.specs.Table.{Sound, Ready};
+ghost use Rattle.lowering.specs.Table.{Sound, Ready};
 ghost use Rattle.closed.specs.Parts.{Alone, StrictHeld, OpenHeld};
 use given::limits_held;
 use given::links_held;

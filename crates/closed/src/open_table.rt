@@ -9,9 +9,9 @@ ghost use Rattle.cell.specs.Steps.{Decides};
 ghost use Rattle.closed.specs.Parts.{RowUnder, AllUnder, CaseHeld, CasesHeld, LinksIn};
 use crate::bounds::at_most;
 use cell::Cell32;
+use joining::get;
 use plan::Link;
 use reader::link_of;
-use tables::get;
 
 // Whether the open cell x to y does not exceed the strict one.
 fn cell_under(strict: &[i32], open: &[i32], n: usize, x: usize, y: usize) -> bool

@@ -5,12 +5,12 @@ ghost use Rattle.rules.specs.Cells.{tableOf};
 ghost use Rattle.plan.specs.Layout.{linkAt};
 ghost use Rattle.plan.specs.Values.{linkOf};
 ghost use Rattle.cell.specs.Steps.{Decides};
-ghost use Rattle.tables.specs.Table.{Sound};
+ghost use Rattle.lowering.specs.Table.{Sound};
 ghost use Rattle.closed.specs.Parts.{PointUppered, LinkUppered, AllUppered, LinksIn};
 use crate::bounds::at_most;
+use joining::get;
 use plan::Link;
 use reader::link_of;
-use tables::get;
 
 // A link and the point x.
 fn point_uppered(t: &[i32], n: usize, link: Link, x: usize) -> bool

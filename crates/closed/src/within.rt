@@ -9,7 +9,7 @@ ghost use Rattle.cell.specs.Steps.{Decides};
 ghost use Rattle.closed.specs.Parts.{RowWithin, AllWithin, Diagonal};
 use crate::bounds::under;
 use cell::Cell32;
-use tables::get;
+use joining::get;
 
 // Whether the cell x to y is in range.
 fn cell_within(t: &[i32], n: usize, x: usize, y: usize) -> bool

@@ -22,9 +22,9 @@ use Rattle.rules.proofs.OneAnswer.{judged-once, checked-once, timed-once, added
 use Rattle.rules.proofs.Rows.{fitting, row-empty, row-length, row-cell}
 use Rattle.plan.specs.Layout.{planOf}
 use Rattle.plan.specs.File.{fileAnswer, addAnswer}
-use Rattle.plan.proofs.Good.{good, add-exactly}
+use Rattle.plan.proofs.SoundFile.{good, add-exactly}
 use Rattle.demands.specs.Demand1.{JudgeLeaves, CheckLeaves, EarliestLeaves, AddLeaves, RowLeaves, Demand1}
-use Rattle.demands.proofs.Codes.{place-named, FileCode, file-code, add-code}
+use Rattle.demands.proofs.FileCodes.{place-named, FileCode, file-code, add-code}
 
 -- a list that stays keeps what lies past any room
 kept-refl : (room : ℕ) (t : List ℤ) → Kept room t t

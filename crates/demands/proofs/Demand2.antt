@@ -16,7 +16,7 @@ use Rattle.rules.specs.Demands.{Demand2OfPlans}
 use Rattle.rules.proofs.Demands.{version1-coherent, demand2-of-plans}
 use Rattle.rules.proofs.OneAnswer.{short-or-room}
 use Rattle.plan.specs.Layout.{planOf}
-use Rattle.plan.proofs.Good.{good}
+use Rattle.plan.proofs.SoundFile.{good}
 use Rattle.demands.specs.Programs.{ourJudge, ourCheck}
 use Rattle.demands.specs.Demand2.{Demand2}
 

@@ -27,15 +27,15 @@ use Rattle.rules.proofs.Domination.{tables-move}
 use Rattle.rules.proofs.Justified.{SameTables, tables-unique, tables-controllable}
 use Rattle.rules.proofs.CellLimits.{includes, cells-pointed}
 use Rattle.rules.proofs.Additions.{AllInRange, taken-in-range, refused-in-range, more-pointed, more-weighted, sequence-tables, reach-holds}
-use Rattle.rules.proofs.Settled.{tables-closed}
+use Rattle.rules.proofs.TablesClosed.{tables-closed}
 use Rattle.rules.proofs.Lists.{cell-injective}
 use Rattle.rules.proofs.OneAnswer.{short-or-room}
 use Rattle.plan.specs.Layout.{planOf}
 use Rattle.plan.specs.File.{fileAnswer, addAnswer}
-use Rattle.plan.proofs.Good.{good, add-exactly}
+use Rattle.plan.proofs.SoundFile.{good, add-exactly}
 use Rattle.demands.specs.Programs.{ourJudge, ourAdd}
 use Rattle.demands.specs.Demand3.{Desk, judged, taken, refused, nothing, OneFile, OneFilesTables, WholeOrder, Demand3}
-use Rattle.demands.proofs.Codes.{FileCode, add-code}
+use Rattle.demands.proofs.FileCodes.{FileCode, add-code}
 use Rattle.demands.proofs.Demand2.{judged-done, not-done-refused, not-done-unclosed, not-short-done, demand2}
 
 plans : Demand3OfPlans version1

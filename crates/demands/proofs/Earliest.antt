@@ -16,7 +16,7 @@ use Rattle.rules.proofs.OneAnswer.{start-number}
 use Rattle.rules.proofs.Times.{earliest-times}
 use Rattle.plan.specs.Layout.{planOf}
 use Rattle.plan.specs.File.{fileAnswer}
-use Rattle.plan.proofs.Good.{good}
+use Rattle.plan.proofs.SoundFile.{good}
 use Rattle.demands.specs.Earliest.{EarliestIsEarliest}
 use Rattle.demands.proofs.Demand2.{not-done-refused, not-short-done}
 

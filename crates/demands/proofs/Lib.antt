@@ -1,5 +1,5 @@
 -- The three demands hold: demand1, demand2, demand3.
-pub mod Codes
+pub mod FileCodes
 pub mod Demand1
 pub mod Demand2
 pub mod Demand3

@@ -1,7 +1,7 @@
-pub mod Order
-pub mod Turns
+pub mod FirstRefusal
+pub mod RecordTurns
 pub mod Records
-pub mod Decide
-pub mod Good
-pub mod Cases
-pub mod Tests
+pub mod TestsDecide
+pub mod SoundFile
+pub mod CaseB
+pub mod TestsMade

@@ -1,6 +1,6 @@
 -- Laws behind the calls, and what their statements rule out.
-pub mod Checks
-pub mod Judges
-pub mod Times
-pub mod Rows
-pub mod Ruled
+pub mod CheckAnswers
+pub mod JudgeAnswers
+pub mod EarliestAnswers
+pub mod RowAnswers
+pub mod CheckFixed

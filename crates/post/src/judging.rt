@@ -6,13 +6,13 @@ ghost use Rattle.rules.specs.Plan.{version1};
 ghost use Rattle.rules.specs.Calls.{Judged};
 ghost use Rattle.plan.specs.Layout.{planOf};
 ghost use Rattle.plan.specs.File.{fileAnswer};
-ghost use Rattle.tables.specs.Table.{Ready};
+ghost use Rattle.lowering.specs.Table.{Ready};
 ghost use Rattle.post.specs.Lent.{Lent};
 use answers::accepted;
+use first::mark_all;
 use plan::head;
 use plan::sound;
 use rules::Answer;
-use tables::mark_all;
 use tables::settle;
 
 // What comes before the work: the file's own code, then room for two tables of so many cells.

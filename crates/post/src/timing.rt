@@ -6,7 +6,7 @@ ghost use Rattle.rules.specs.Plan.{version1};
 ghost use Rattle.rules.specs.Calls.{Timed};
 ghost use Rattle.plan.specs.Layout.{planOf};
 ghost use Rattle.plan.specs.File.{fileAnswer};
-ghost use Rattle.tables.specs.Table.{Ready};
+ghost use Rattle.lowering.specs.Table.{Ready};
 use crate::judging::judge_sound;
 use crate::judging::lent;
 use answers::accepted;

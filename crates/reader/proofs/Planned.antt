@@ -14,7 +14,7 @@ use Rattle.rules.specs.declared.Answer.the-variants.{Done}
 use Rattle.fields.specs.Bytes.{wordAt, signedAt, signedOf}
 use Rattle.plan.specs.Layout.{headOf, limitOffset, linkOffset, limitAt, linkAt, records, planOf}
 use Rattle.plan.specs.File.{fileAnswer}
-use Rattle.plan.proofs.Good.{good, limits-length, links-length, points-is, limit-ranged, link-ranged}
+use Rattle.plan.proofs.SoundFile.{good, limits-length, links-length, points-is, limit-ranged, link-ranged}
 use Rattle.reader.specs.declared.PlanReader.{PlanReader}
 use Rattle.reader.specs.Reads.{holding, ReaderOf, Counts, noLimit, noLink, IsLimit, IsLink}
 

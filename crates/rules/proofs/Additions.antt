@@ -17,7 +17,7 @@ use Rattle.rules.specs.Demands.{AllIn}
 use Rattle.rules.proofs.Points.{Pointed, Weighted, in-range-weighted}
 use Rattle.rules.proofs.Domination.{Dominates, tables-move, uncontrollable-dominated}
 use Rattle.rules.proofs.Justified.{tables-controllable}
-use Rattle.rules.proofs.Settled.{wider, strict-reach, open-reach}
+use Rattle.rules.proofs.TablesClosed.{wider, strict-reach, open-reach}
 use Rattle.rules.proofs.CellLimits.{includes, limit-dominates-cells, cells-dominate-limit}
 
 -- ---- limits in range

@@ -22,7 +22,7 @@ use Rattle.rules.proofs.Cells.{AtMost, at-most, same-number}
 use Rattle.rules.proofs.Walks.{single, Dominated, exactly, weaker}
 use Rattle.rules.proofs.Points.{Pointed}
 use Rattle.rules.proofs.Domination.{Dominates, walk-dominated}
-use Rattle.rules.proofs.Settled.{least-below, least-diagonal}
+use Rattle.rules.proofs.TablesClosed.{least-below, least-diagonal}
 
 -- ---- the limits of a table
 

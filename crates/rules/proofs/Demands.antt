@@ -6,7 +6,7 @@ use Rattle.rules.specs.Demands.{Demand2OfPlans, Demand3OfPlans}
 use Rattle.rules.proofs.Points.{in-range-pointed, in-range-weighted}
 use Rattle.rules.proofs.Bound.{closed-controllable}
 use Rattle.rules.proofs.Justified.{tables-unique, tables-controllable}
-use Rattle.rules.proofs.Settled.{tables-closed, strict-reach, open-reach}
+use Rattle.rules.proofs.TablesClosed.{tables-closed, strict-reach, open-reach}
 use Rattle.rules.proofs.Additions.{end-tables, none-refused, some-refused, refused-again, never-beyond, reach-holds}
 
 -- "1,000,000 x (n - 1)" is in the closed range, and the mark is above it twice

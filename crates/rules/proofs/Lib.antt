@@ -10,7 +10,7 @@ pub mod Different
 pub mod Shortening
 pub mod Reach
 pub mod Domination
-pub mod Settled
+pub mod TablesClosed
 pub mod CellLimits
 pub mod Additions
 pub mod Demands

@@ -14,7 +14,7 @@ use Rattle.rules.specs.Tables.{Least, Tables}
 use Rattle.rules.specs.Times.{Timetable, Meets, EarliestTimes}
 use Rattle.rules.proofs.Walks.{single}
 use Rattle.rules.proofs.Points.{Pointed}
-use Rattle.rules.proofs.Settled.{least-diagonal}
+use Rattle.rules.proofs.TablesClosed.{least-diagonal}
 use Rattle.rules.proofs.Cells.{same-number}
 
 -- times that meet every edge of a family meet every walk over it

@@ -1,6 +1,6 @@
 -- Laws that the walks through the scratch cite.
-pub mod Copying
-pub mod Parts
-pub mod Sweeps
-pub mod Begins
-pub mod Ends
+pub mod CellsCopied
+pub mod ScratchParts
+pub mod AddSweeps
+pub mod AddBegins
+pub mod AddEnds

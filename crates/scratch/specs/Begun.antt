@@ -7,7 +7,7 @@ use lib.IntN.{ℤ}
 use Rattle.rules.specs.Plan.{Limit, version1}
 use Rattle.rules.specs.Cells.{tableOf}
 use Rattle.cell.specs.Steps.{adding}
-use Rattle.tables.specs.Sweep.{limitCell, firstOpen}
+use Rattle.lowering.specs.Sweep.{limitCell, firstOpen}
 use Rattle.scratch.specs.Swept.{strictPart, openPart}
 
 -- one part holds the strict cells at 64 bits and the limit, the other the first open table

@@ -7,9 +7,9 @@ use Prim.Native.Nat.{ℕ, _+_, _*_, _≤_}
 use lib.ListN.{length, take, drop}
 use lib.IntN.{ℤ}
 use Rattle.rules.specs.Plan.{Link, Ranges}
-use Rattle.tables.specs.Sweep.{sweepStrict, sweepOpen}
-use Rattle.tables.specs.Table.{Sound}
-use Rattle.tables.specs.Fair.{Fair, Unfair}
+use Rattle.lowering.specs.Sweep.{sweepStrict, sweepOpen}
+use Rattle.lowering.specs.Table.{Sound}
+use Rattle.lowering.specs.Fair.{Fair, Unfair}
 
 -- the part that holds the strict table, and the part that holds the open one
 abbrev pub strictPart : ℕ → List ℤ → List ℤ

@@ -4,7 +4,7 @@ ghost use Prim.Native.Nat.{_≤_, _<_};
 ghost use lib.ListN.{length, getD, set};
 ghost use lib.IntN.{pos};
 ghost use Rattle.rules.specs.Calls.{Filled};
-ghost use Rattle.tables.specs.Fair.{Looked};
+ghost use Rattle.lowering.specs.Fair.{Looked};
 ghost use Rattle.scratch.specs.Copies.{Widened, Narrowed, InReach, OutOfReach};
 use cell::Cell32;
 use cell::wide::Cell64;

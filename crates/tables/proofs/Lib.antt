@@ -1,23 +1,3 @@
--- What sweeps and rounds keep, proved on their functions of lists, with no code in sight; and the laws that the walks through the code cite.
-pub mod Numbers
-pub mod Lowering
-pub mod Steps
-pub mod Walked
-pub mod Spreads
-pub mod Settled
-pub mod Heights
-pub mod First
-pub mod Going
-pub mod Warshall
-pub mod Joined
-pub mod Rounds
-pub mod Begun
-pub mod Turns
-pub mod Edges
-pub mod Ready
-pub mod Links
-pub mod Starts
-pub mod Sounds
-pub mod Seen
-pub mod Standing
-pub mod Minus
+-- The rounds from the first tables to their end, and the times written: what the walks of this crate cite.
+pub mod SettleLoop
+pub mod TimesWritten

@@ -1,6 +1,2 @@
--- What the functions of this crate compute and ask.
-pub mod Table
-pub mod Sweep
-pub mod Spread
-pub mod Fair
+-- How the rounds end.
 pub mod Ends

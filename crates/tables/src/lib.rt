@@ -1,53 +1,7 @@
-// Two lent tables, lowered to the least totals: the given edges joined, then each new edge spread. What each function computes is said by the functions of
-// lists in specs/Sweep.antt and specs/Spread.antt. Here one cell: read, written, and lowered.
-mod joins;
-mod looks;
-mod lowers;
+// The two tables of least totals: the given edges joined, the open table a copy with the lower-case edges, then rounds of Lower and Upper to the end; and the times.
 mod opening;
 mod settling;
-mod spreading;
-mod starting;
 mod timing;
-mod uppers;
 
-pub use looks::fair;
-pub use looks::height_all;
 pub use settling::settle;
-pub use starting::first_strict;
-pub use starting::mark_all;
 pub use timing::times_all;
-ghost use mathlib.Core.Path.{_≡_};
-ghost use Prim.Native.Nat.{_+_, _*_, _≤_, _<_};
-ghost use lib.ListN.{length, getD, set};
-ghost use lib.IntN.{pos};
-ghost use Rattle.rules.specs.Plan.{version1};
-ghost use Rattle.cell.specs.Steps.{cell32};
-ghost use Rattle.tables.specs.Sweep.{lowerCell};
-use cell::Cell32;
-
-// The cell x to y.
-pub fn get(t: &[i32], n: usize, x: usize, y: usize) -> Cell32
-    requires { ⌜ (x < n) × (y < n) × (n * n ≤ length (now t)) × (n ≤ 64) ⌝ }
-    ensures { λ r. ⌜ r .v ≡ getD (now (t .entry)) (x * n + y) (pos 0) ⌝ }
-{
-    Cell32 { v: t[x * n + y] }
-}
-
-// The cell x to y written.
-fn put(t: &mut [i32], n: usize, x: usize, y: usize, c: Cell32)
-    requires { ⌜ (x < n) × (y < n) × (n * n ≤ length (now t)) × (n ≤ 64) ⌝ }
-    ensures { λ r. ⌜ now (t .exit) ≡ set (now (t .entry)) (x * n + y) (c .v) ⌝ }
-{
-    let v = c.v;
-    t[x * n + y] = v;
-}
-
-// The cell x to y lowered to c where that is smaller.
-fn lower_cell(t: &mut [i32], n: usize, x: usize, y: usize, c: Cell32)
-    requires { ⌜ (x < n) × (y < n) × (n * n ≤ length (now t)) × (n ≤ 64) ⌝ }
-    ensures { λ r. ⌜ now (t .exit) ≡ lowerCell version1 n x y (cell32 (c .v)) (now (t .entry)) ⌝ }
-{
-    let old = get(t, n, x, y);
-    let new = c.kept().smaller(old);
-    put(t, n, x, y, new);
-}

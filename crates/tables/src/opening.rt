@@ -5,13 +5,13 @@ ghost use lib.ListN.{length};
 ghost use Rattle.rules.specs.Plan.{version1, LinkInRange};
 ghost use Rattle.plan.specs.Layout.{linkAt};
 ghost use Rattle.plan.specs.Values.{linkOf};
-ghost use Rattle.tables.specs.Table.{Sound, Ready};
-ghost use Rattle.tables.specs.Spread.{Copied, caseEdge, caseEdges, followLower, followLowers, followUpper, followUppers, followLink, openRound};
-use crate::get;
-use crate::spreading::new_edge;
+ghost use Rattle.lowering.specs.Table.{Sound, Ready};
+ghost use Rattle.lowering.specs.Spread.{Copied, caseEdge, caseEdges, followLower, followLowers, followUpper, followUppers, followLink, openRound};
 use cell::Cell32;
+use joining::get;
 use plan::Link;
 use reader::link_of;
+use spreads::new_edge;
 
 // The first cells of the strict table, copied.
 pub fn copy_all(strict: &[i32], t: &mut [i32], count: usize)

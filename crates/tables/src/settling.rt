@@ -7,20 +7,20 @@ ghost use lib.ListN.{length};
 ghost use Rattle.rules.specs.Plan.{version1};
 ghost use Rattle.rules.specs.Calls.{Written};
 ghost use Rattle.plan.specs.Layout.{limitAt, linkAt, planOf};
-ghost use Rattle.tables.specs.Table.{Sound, Ready};
-ghost use Rattle.tables.specs.Sweep.{joinAll, firstStrict, heights};
-ghost use Rattle.tables.specs.Spread.{Opened, strictRound};
-ghost use Rattle.tables.specs.Fair.{Fair, Unfair, Looked};
+ghost use Rattle.lowering.specs.Table.{Sound, Ready};
+ghost use Rattle.lowering.specs.Sweep.{joinAll, firstStrict, heights};
+ghost use Rattle.lowering.specs.Spread.{Opened, strictRound};
+ghost use Rattle.lowering.specs.Fair.{Fair, Unfair, Looked};
 ghost use Rattle.tables.specs.Ends.{Refused};
-use crate::joins::join_all;
-use crate::looks::fair;
-use crate::looks::height_all;
-use crate::lowers::lower_round;
 use crate::opening::case_edges;
 use crate::opening::copy_all;
 use crate::opening::open_round;
-use crate::starting::first_strict;
-use crate::uppers::upper_round;
+use first::first_strict;
+use joining::fair;
+use joining::height_all;
+use joining::join_all;
+use spreads::lower_round;
+use spreads::upper_round;
 
 // The strict table of the given edges, joined.
 fn joined_strict(file: &[u8], n: usize, m: u32, k: u32, t: &mut [i32])

@@ -4,8 +4,8 @@ ghost use Prim.Native.Nat.{_≤_};
 ghost use lib.ListN.{length};
 ghost use Rattle.rules.specs.Plan.{Plan, version1};
 ghost use Rattle.rules.specs.Calls.{TimesOf};
-ghost use Rattle.tables.specs.Table.{Sound};
-use crate::get;
+ghost use Rattle.lowering.specs.Table.{Sound};
+use joining::get;
 
 // A time for each point, of any plan of n points.
 pub fn times_all(strict: &[i32], n: usize, times: &mut [i32])

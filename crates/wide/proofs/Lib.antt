@@ -1,3 +1,3 @@
 -- What Add's sweep starts from, with no code in sight.
-pub mod Start
-pub mod Numbers
+pub mod AddStart
+pub mod WideCells

@@ -2,8 +2,8 @@
 ghost use mathlib.Core.Path.{_≡_};
 ghost use Prim.Native.Nat.{_≤_, _<_};
 ghost use Rattle.cell.specs.Steps.{adding};
-ghost use Rattle.tables.specs.Table.{Sound};
-ghost use Rattle.tables.specs.Sweep.{joinRow, joinMiddle, joinAll};
+ghost use Rattle.lowering.specs.Table.{Sound};
+ghost use Rattle.lowering.specs.Sweep.{joinRow, joinMiddle, joinAll};
 use crate::get;
 use crate::lower_cell;
 

@@ -21,7 +21,7 @@ ghost use lib.ListN.{length, getD, set};
 ghost use lib.IntN.{pos};
 ghost use Rattle.cell.specs.Steps.{adding};
 ghost use Rattle.cell.specs.Steps.{cell64};
-ghost use Rattle.tables.specs.Sweep.{lowerCell};
+ghost use Rattle.lowering.specs.Sweep.{lowerCell};
 use cell::wide::Cell64;
 
 // The cell x to y.

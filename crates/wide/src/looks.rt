@@ -4,9 +4,9 @@ ghost use Prim.Native.Nat.{_*_, _≤_, _<_};
 ghost use lib.ListN.{length, getD};
 ghost use lib.IntN.{pos};
 ghost use Rattle.cell.specs.Steps.{adding};
-ghost use Rattle.tables.specs.Table.{Sound, Held};
-ghost use Rattle.tables.specs.Sweep.{heights};
-ghost use Rattle.tables.specs.Fair.{AllWithin, NoneNegative, Fair, Unfair, Looked};
+ghost use Rattle.lowering.specs.Table.{Sound, Held};
+ghost use Rattle.lowering.specs.Sweep.{heights};
+ghost use Rattle.lowering.specs.Fair.{AllWithin, NoneNegative, Fair, Unfair, Looked};
 use crate::get;
 use cell::wide::Cell64;
 

@@ -2,8 +2,8 @@
 ghost use mathlib.Core.Path.{_≡_};
 ghost use Rattle.cell.specs.Steps.{adding};
 ghost use Rattle.plan.specs.Layout.{linkAt};
-ghost use Rattle.tables.specs.Table.{Sound, Ready};
-ghost use Rattle.tables.specs.Sweep.{joinAll, caseAll, sweepStrict};
+ghost use Rattle.lowering.specs.Table.{Sound, Ready};
+ghost use Rattle.lowering.specs.Sweep.{joinAll, caseAll, sweepStrict};
 use crate::joins::join_all;
 use crate::lowers::lower_all;
 use crate::opening::case_all;

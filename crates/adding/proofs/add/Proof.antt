@@ -4,16 +4,10 @@ use mir.Syntax.{w32}
 use mir.Val.{toZ, ofZ}
 use Rattle.whole.proofs.Bits.{back}
 use Rattle.rules.specs.Plan.{Limit}
-use Rattle.adding.proofs.Answered.{file-refused, file-done, cells-small, strict-short, open-short, scratch-short, lent, weight-back}
+use Rattle.adding.proofs.AddAnswers.{file-refused, file-done, cells-small, strict-short, open-short, scratch-short, lent, weight-back}
 use borrow.Author.Needs.{needs}
 use Rattle.adding.proofs.add.Statement.{statement}
 use Rattle.adding.proofs.add.Tie as tie
-
-sound-with-requires : tie.Need-sound-with-requires
-sound-with-requires c κs = search needs
-
-accepted-requires : tie.Need-accepted-requires
-accepted-requires c κs = search needs
 
 returns : tie.Need-returns
 returns c =
@@ -23,12 +17,6 @@ returns c =
     let if1 = c .if1 in
     weight-back (s .args .file .now) (s .args .x) (s .args .y) (back (s .fits .w))
     (file-refused (s .args .file .now) (record { from = s .args .x; to = s .args .y; weight = toZ w32 (ofZ w32 (s .args .w)) }) (sound-with .result) (sound-with .ensures) (accepted .result) (accepted .ensures) (s .args .strict .now) (s .args .«open» .now) (s .args .cells .now) (if1 .taken))
-
-head-requires : tie.Need-head-requires
-head-requires c κs = search needs
-
-cast-n : tie.Need-cast-n
-cast-n c = search needs
 
 mul-room : tie.Need-mul-room
 mul-room c =
@@ -67,9 +55,6 @@ returns-3 c =
     weight-back (s .args .file .now) (s .args .x) (s .args .y) (back (s .fits .w))
     (open-short (s .args .file .now) l done (head .result) (head .ensures) (s .args .strict .now) (s .args .«open» .now) (s .args .cells .now) (if3 .taken))
 
-add-if4 : tie.Need-add-if4
-add-if4 c = search needs
-
 returns-4 : tie.Need-returns-4
 returns-4 c =
     let s = c .before .before .before .before .before .before .before .before .before in
@@ -97,15 +82,6 @@ add-to-requires c κs =
     let done = file-done (s .args .file .now) l (sound-with .result) (sound-with .ensures) (accepted .result) (accepted .ensures) (if1 .left) in
     lent (s .args .file .now) l done (head .result) (head .ensures) (s .args .strict .now) (s .args .«open» .now) (s .args .cells .now) (if2 .left) (if3 .left) (if4 .left)
 
-same-length : tie.Need-same-length
-same-length c = search needs
-
-same-length-2 : tie.Need-same-length-2
-same-length-2 c = search needs
-
-same-length-3 : tie.Need-same-length-3
-same-length-3 c = search needs
-
 returns-5 : tie.Need-returns-5
 returns-5 c =
     let s = c .before .before .before .before .before .before .before .before .before .before .before .before .before .before .before .before in
@@ -115,19 +91,6 @@ returns-5 c =
 pub add-spec : {M : Type 1} → statement M
 add-spec =
     tie.close
-    (tie.spec
-    sound-with-requires
-    accepted-requires
-    returns
-    head-requires
-    cast-n
-    mul-room
-    returns-2
-    returns-3
-    add-if4
-    returns-4
-    add-to-requires
-    same-length
-    same-length-2
-    same-length-3
-    returns-5)
+    (tie.spec (λ c κs. search needs) (λ c κs. search needs) returns (λ c κs. search needs) (λ c. search needs)
+    mul-room returns-2 returns-3 (λ c. search needs) returns-4 add-to-requires (λ c. search needs) (λ c. search needs)
+    (λ c. search needs) returns-5)

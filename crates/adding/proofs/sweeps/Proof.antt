@@ -2,20 +2,11 @@
 use mathlib.Core.Path.{_∙_}
 use borrow.Author.Tests.{not-true, not-false}
 use native.Mathlib.Omega.{arith}
-use Rattle.tables.proofs.Links.{few}
-use Rattle.adding.proofs.Answered.{start-within, started, refused, out, taken}
+use Rattle.lowering.proofs.Code.LinksAsRead.{few}
+use Rattle.adding.proofs.AddAnswers.{start-within, started, refused, out, taken}
 use borrow.Author.Needs.{needs}
 use Rattle.adding.proofs.sweeps.Statement.{statement}
 use Rattle.adding.proofs.sweeps.Tie as tie
-
-mul-room : tie.Need-mul-room
-mul-room c = search needs
-
-mul-room-2 : tie.Need-mul-room-2
-mul-room-2 c = search needs
-
-add-room : tie.Need-add-room
-add-room c = search needs
 
 begin-requires : tie.Need-begin-requires
 begin-requires c κs =
@@ -28,15 +19,6 @@ settle-requires c κs =
     let begin = c .before .before .begin in
     (s .pre .0 .ready, started (s .pre .0) (s .pre .1) (begin .ensures) (begin .kept .1 .0))
 
-clear-requires : tie.Need-clear-requires
-clear-requires c κs = search needs
-
-same-length : tie.Need-same-length
-same-length c = search needs
-
-same-length-2 : tie.Need-same-length-2
-same-length-2 c = search needs
-
 returns : tie.Need-returns
 returns c =
     let s = c .before .before .before .before .before .before .before .before .before .before .before .before in
@@ -45,18 +27,6 @@ returns c =
     let if1 = c .before .before .before .if1 in
     let clear = c .before .clear in
     refused (s .pre .0) (s .pre .1) (begin .ensures) (settle .ensures) (settle .kept .1 .1 .1 .1 .0 ∙ begin .kept .1 .0) (not-true (settle .result) (if1 .taken)) (clear .ensures)
-
-all-in-reach-requires : tie.Need-all-in-reach-requires
-all-in-reach-requires c κs = search needs
-
-clear-requires-2 : tie.Need-clear-requires-2
-clear-requires-2 c κs = search needs
-
-same-length-3 : tie.Need-same-length-3
-same-length-3 c = search needs
-
-same-length-4 : tie.Need-same-length-4
-same-length-4 c = search needs
 
 returns-2 : tie.Need-returns-2
 returns-2 c =
@@ -84,15 +54,6 @@ finish-requires c κs =
       all-in-reach .ensures .holds (not-false (all-in-reach .result) (if2 .left)),
     )
 
-same-length-5 : tie.Need-same-length-5
-same-length-5 c = search needs
-
-same-length-6 : tie.Need-same-length-6
-same-length-6 c = search needs
-
-same-length-7 : tie.Need-same-length-7
-same-length-7 c = search needs
-
 returns-3 : tie.Need-returns-3
 returns-3 c =
     let s = c .before .before .before .before .before .before .before .before .before .before .before .before .before .before .before .before .before .before .before in
@@ -108,23 +69,7 @@ returns-3 c =
 pub sweeps-spec : {M : Type 1} → statement M
 sweeps-spec =
     tie.close
-    (tie.spec
-    mul-room
-    mul-room-2
-    add-room
-    begin-requires
-    settle-requires
-    clear-requires
-    same-length
-    same-length-2
-    returns
-    all-in-reach-requires
-    clear-requires-2
-    same-length-3
-    same-length-4
-    returns-2
-    finish-requires
-    same-length-5
-    same-length-6
-    same-length-7
-    returns-3)
+    (tie.spec (λ c. search needs) (λ c. search needs) (λ c. search needs) begin-requires settle-requires
+    (λ c κs. search needs) (λ c. search needs) (λ c. search needs) returns (λ c κs. search needs)
+    (λ c κs. search needs) (λ c. search needs) (λ c. search needs) returns-2 finish-requires (λ c. search needs)
+    (λ c. search needs) (λ c. search needs) returns-3)

@@ -47,8 +47,5 @@ cast-result-2 c =
     let h = c .before .fits .v in
     rw (back h) (by-nonNeg v (omega (signed, kept h)), omega (signed, kept h, abs v))
 
-returns-2 : tie.Need-returns-2
-returns-2 c = search needs
-
 pub size-spec : {M : Type 1} → statement M
-size-spec = tie.close (tie.spec sub-result cast-result add-result returns cast-result-2 returns-2)
+size-spec = tie.close (tie.spec sub-result cast-result add-result returns cast-result-2 (λ c. search needs))

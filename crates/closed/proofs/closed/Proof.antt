@@ -2,8 +2,8 @@
 use borrow.Author.Needs.{needs}
 use Rattle.rules.specs.Plan.{version1}
 use Rattle.rules.specs.Cells.{tableOf}
-use Rattle.closed.proofs.Exceeds.{refuted, given-by, decides-all}
-use Rattle.closed.proofs.Whole.{few, sound-by, closed-by, strict-alone, open-alone, strict-held, open-held}
+use Rattle.closed.proofs.CellTests.{refuted, given-by, decides-all}
+use Rattle.closed.proofs.ClosedWhole.{few, sound-by, closed-by, strict-alone, open-alone, strict-held, open-held}
 use Rattle.closed.proofs.closed.Statement.{statement}
 use Rattle.closed.proofs.closed.Tie as tie
 
@@ -45,9 +45,6 @@ returns-3 c =
     refuted (c .before .strict-held .ensures) (c .if3 .taken)
     (strict-held (a .file .now) (a .n) (a .m) (a .k) (s .pre .0) (tableOf version1 (a .n) (a .strict .now)) (tableOf version1 (a .n) (a .«open» .now)))
 
-open-held-requires : tie.Need-open-held-requires
-open-held-requires c κs = search needs
-
 returns-4 : tie.Need-returns-4
 returns-4 c =
     let three = c .before in
@@ -65,12 +62,5 @@ returns-4 c =
 pub closed-spec : {M : Type 1} → statement M
 closed-spec =
     tie.close
-    (tie.spec
-    alone-requires
-    returns
-    alone-requires-2
-    returns-2
-    strict-held-requires
-    returns-3
-    open-held-requires
+    (tie.spec alone-requires returns alone-requires-2 returns-2 strict-held-requires returns-3 (λ c κs. search needs)
     returns-4)

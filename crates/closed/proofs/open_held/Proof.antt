@@ -1,8 +1,8 @@
 -- `open_held` meets its contract: two tests, one after the other. Assumes nothing.
 use borrow.Author.Needs.{needs}
-use Rattle.tables.proofs.Ready.{link-range}
-use Rattle.closed.proofs.Exceeds.{refuted, given-by, decides-all}
-use Rattle.closed.proofs.Whole.{few}
+use Rattle.lowering.proofs.Code.ReadyFile.{link-range}
+use Rattle.closed.proofs.CellTests.{refuted, given-by, decides-all}
+use Rattle.closed.proofs.ClosedWhole.{few}
 use Rattle.closed.proofs.open_held.Statement.{statement}
 use Rattle.closed.proofs.open_held.Tie as tie
 
@@ -10,9 +10,6 @@ all-under-requires : tie.Need-all-under-requires
 all-under-requires c κs =
     let a = c .before .args in
     (search needs, search needs, few (a .file .now) (a .n) (a .m) (a .k) (c .before .pre .0))
-
-returns : tie.Need-returns
-returns c = refuted (c .before .all-under .ensures) (c .if1 .taken) (λ h. h .under)
 
 cases-held-requires : tie.Need-cases-held-requires
 cases-held-requires c κs =
@@ -27,4 +24,8 @@ returns-2 c =
     (λ h. h .cases)
 
 pub open-held-spec : {M : Type 1} → statement M
-open-held-spec = tie.close (tie.spec all-under-requires returns cases-held-requires returns-2)
+open-held-spec =
+    tie.close
+    (tie.spec all-under-requires
+    (λ c. refuted (c .before .all-under .ensures) (c .if1 .taken) (λ h. h .under))
+    cases-held-requires returns-2)

@@ -1,7 +1,7 @@
 -- `strict_held` meets its contract: five tests, one after the other. Assumes nothing.
-use Rattle.tables.proofs.Ready.{limit-range, link-range}
-use Rattle.closed.proofs.Exceeds.{refuted, given-by, decides-all}
-use Rattle.closed.proofs.Whole.{few}
+use Rattle.lowering.proofs.Code.ReadyFile.{limit-range, link-range}
+use Rattle.closed.proofs.CellTests.{refuted, given-by, decides-all}
+use Rattle.closed.proofs.ClosedWhole.{few}
 use Rattle.closed.proofs.strict_held.Statement.{statement}
 use Rattle.closed.proofs.strict_held.Tie as tie
 
@@ -11,17 +11,11 @@ limits-held-requires c κs =
     let p = c .before .pre in
     (limit-range (a .file .now) (a .n) (a .m) (a .k) (p .0), p .1 .room, few (a .file .now) (a .n) (a .m) (a .k) (p .0))
 
-returns : tie.Need-returns
-returns c = refuted (c .before .limits-held .ensures) (c .if1 .taken) (λ h. h .limits)
-
 starts-held-requires : tie.Need-starts-held-requires
 starts-held-requires c κs =
     let a = c .before .before .before .args in
     let p = c .before .before .before .pre in
     (p .1 .room, few (a .file .now) (a .n) (a .m) (a .k) (p .0))
-
-returns-2 : tie.Need-returns-2
-returns-2 c = refuted (c .before .starts-held .ensures) (c .if2 .taken) (λ h. h .starts)
 
 links-held-requires : tie.Need-links-held-requires
 links-held-requires c κs =
@@ -29,17 +23,11 @@ links-held-requires c κs =
     let p = c .before .before .before .before .before .pre in
     (link-range (a .file .now) (a .n) (a .m) (a .k) (p .0), p .1 .room, few (a .file .now) (a .n) (a .m) (a .k) (p .0))
 
-returns-3 : tie.Need-returns-3
-returns-3 c = refuted (c .before .links-held .ensures) (c .if3 .taken) (λ h. h .links)
-
 all-lowered-requires : tie.Need-all-lowered-requires
 all-lowered-requires c κs =
     let a = c .before .before .before .before .before .before .before .args in
     let p = c .before .before .before .before .before .before .before .pre in
     (link-range (a .file .now) (a .n) (a .m) (a .k) (p .0), few (a .file .now) (a .n) (a .m) (a .k) (p .0), p .1)
-
-returns-4 : tie.Need-returns-4
-returns-4 c = refuted (c .before .all-lowered .ensures) (c .if4 .taken) (λ h. h .lower)
 
 all-uppered-requires : tie.Need-all-uppered-requires
 all-uppered-requires c κs =
@@ -67,14 +55,12 @@ returns-5 c =
 pub strict-held-spec : {M : Type 1} → statement M
 strict-held-spec =
     tie.close
-    (tie.spec
-    limits-held-requires
-    returns
+    (tie.spec limits-held-requires
+    (λ c. refuted (c .before .limits-held .ensures) (c .if1 .taken) (λ h. h .limits))
     starts-held-requires
-    returns-2
+    (λ c. refuted (c .before .starts-held .ensures) (c .if2 .taken) (λ h. h .starts))
     links-held-requires
-    returns-3
+    (λ c. refuted (c .before .links-held .ensures) (c .if3 .taken) (λ h. h .links))
     all-lowered-requires
-    returns-4
-    all-uppered-requires
-    returns-5)
+    (λ c. refuted (c .before .all-lowered .ensures) (c .if4 .taken) (λ h. h .lower))
+    all-uppered-requires returns-5)

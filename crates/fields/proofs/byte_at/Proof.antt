@@ -7,24 +7,10 @@ use lib.ListN.{List·getD-eq-default}
 use Rattle.fields.proofs.byte_at.Statement.{statement}
 use Rattle.fields.proofs.byte_at.Tie as tie
 
-returns : tie.Need-returns
-returns c = sym (List·getD-eq-default (c .before .args .file .now) 0 (omega arith))
-
-sub-if2 : tie.Need-sub-if2
-sub-if2 c = search needs
-
-returns-2 : tie.Need-returns-2
-returns-2 c = sym (List·getD-eq-default (c .before .before .args .file .now) 0 (omega arith))
-
-add-result : tie.Need-add-result
-add-result c = search needs
-
-shared-slice-read-result : tie.Need-shared-slice-read-result
-shared-slice-read-result c = search needs
-
-returns-3 : tie.Need-returns-3
-returns-3 c = search needs
-
 pub byte-at-spec : {M : Type 1} → statement M
 byte-at-spec =
-    tie.close (tie.spec returns sub-if2 returns-2 add-result shared-slice-read-result returns-3)
+    tie.close
+    (tie.spec (λ c. sym (List·getD-eq-default (c .before .args .file .now) 0 (omega arith)))
+    (λ c. search needs)
+    (λ c. sym (List·getD-eq-default (c .before .before .args .file .now) 0 (omega arith)))
+    (λ c. search needs) (λ c. search needs) (λ c. search needs))

@@ -11,23 +11,11 @@ use Rattle.fields.proofs.Halves.{signed-low, signed-high, from-below}
 use Rattle.fields.proofs.signed.Statement.{statement}
 use Rattle.fields.proofs.signed.Tie as tie
 
-cast-result : tie.Need-cast-result
-cast-result c = search needs
-
-sub-result : tie.Need-sub-result
-sub-result c = search needs
-
-cast-result-2 : tie.Need-cast-result-2
-cast-result-2 c = search needs
-
 sub-result-2 : tie.Need-sub-result-2
 sub-result-2 c =
     let h : 2_147_483_648 ≤ c .before .args .w = omega arith in
     let l : c .before .args .w < 4_294_967_296 = omega arith in
     rw (from-below (c .before .args .w) h l) (sfits-of (omega arith))
-
-returns : tie.Need-returns
-returns c = signed-low (c .before .args .w) (omega arith)
 
 returns-2 : tie.Need-returns-2
 returns-2 c =
@@ -37,4 +25,7 @@ returns-2 c =
 
 pub signed-spec : {M : Type 1} → statement M
 signed-spec =
-    tie.close (tie.spec cast-result sub-result cast-result-2 sub-result-2 returns returns-2)
+    tie.close
+    (tie.spec (λ c. search needs) (λ c. search needs) (λ c. search needs) sub-result-2
+    (λ c. signed-low (c .before .args .w) (omega arith))
+    returns-2)

@@ -8,15 +8,9 @@ use Rattle.fields.specs.Bytes.{signedAt, signedOf}
 use Rattle.fields.proofs.signed_at.Statement.{statement}
 use Rattle.fields.proofs.signed_at.Tie as tie
 
-unsigned-at-requires : tie.Need-unsigned-at-requires
-unsigned-at-requires c κs = search needs
-
-signed-requires : tie.Need-signed-requires
-signed-requires c κs = search needs
-
 returns : tie.Need-returns
 unfolding signedAt
 returns c = toZ-ofZ w32 (c .signed .result) (sfits-of (c .signed .ok)) ∙ c .signed .ensures ∙ ap signedOf (c .before .unsigned-at .ensures)
 
 pub signed-at-spec : {M : Type 1} → statement M
-signed-at-spec = tie.close (tie.spec unsigned-at-requires signed-requires returns)
+signed-at-spec = tie.close (tie.spec (λ c κs. search needs) (λ c κs. search needs) returns)

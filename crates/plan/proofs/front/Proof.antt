@@ -1,18 +1,9 @@
 -- `front` meets its contract: the header's answer stands, or the limits' counts.
 -- Assumes nothing.
 use borrow.Author.Needs.{needs}
-use Rattle.plan.proofs.Order.{front-stop, front-next}
+use Rattle.plan.proofs.FirstRefusal.{front-stop, front-next}
 use Rattle.plan.proofs.front.Statement.{statement}
 use Rattle.plan.proofs.front.Tie as tie
-
-head-requires : tie.Need-head-requires
-head-requires c κs = search needs
-
-head-answer-requires : tie.Need-head-answer-requires
-head-answer-requires c κs = search needs
-
-accepted-requires : tie.Need-accepted-requires
-accepted-requires c κs = search needs
 
 returns : tie.Need-returns
 returns c =
@@ -20,9 +11,6 @@ returns c =
     let answer = ok .before in
     let head = answer .before in
     front-stop (head .before .before .args .file .now) (ok .accepted .ensures) (head .head .ensures) (answer .head-answer .ensures) (c .if1 .taken)
-
-limits-requires : tie.Need-limits-requires
-limits-requires c κs = search needs
 
 returns-2 : tie.Need-returns-2
 returns-2 c =
@@ -36,10 +24,5 @@ returns-2 c =
 pub front-spec : {M : Type 1} → statement M
 front-spec =
     tie.close
-    (tie.spec
-    head-requires
-    head-answer-requires
-    accepted-requires
-    returns
-    limits-requires
+    (tie.spec (λ c κs. search needs) (λ c κs. search needs) (λ c κs. search needs) returns (λ c κs. search needs)
     returns-2)

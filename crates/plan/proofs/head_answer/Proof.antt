@@ -2,23 +2,10 @@
 -- Assumes nothing.
 use borrow.Author.Needs.{needs}
 use borrow.Author.Tests.{le-leb, lt-leb, eq-eqb, ne-eqb}
-use Rattle.plan.proofs.Tests.{failed, passed}
+use Rattle.plan.proofs.TestsMade.{failed, passed}
 use Rattle.plan.specs.File.{headAnswer}
 use Rattle.plan.proofs.head_answer.Statement.{statement}
 use Rattle.plan.proofs.head_answer.Tie as tie
-
-returns : tie.Need-returns
-unfolding headAnswer
-returns c = simp (lt-leb _ _ (c .if1 .taken))
-
-returns-2 : tie.Need-returns-2
-unfolding headAnswer
-returns-2 c =
-    let size = c .before .before in
-    simp (le-leb _ _ (size .if1 .left), ne-eqb _ _ (c .if2 .taken))
-
-points-fit-requires : tie.Need-points-fit-requires
-points-fit-requires c κs = search needs
 
 returns-3 : tie.Need-returns-3
 unfolding headAnswer
@@ -27,9 +14,6 @@ returns-3 c =
     let version = points .before in
     let size = version .before .before in
     simp (le-leb _ _ (size .if1 .left), eq-eqb _ _ (version .if2 .left), failed (points .points-fit .ensures) (c .if3 .taken))
-
-counts-fit-requires : tie.Need-counts-fit-requires
-counts-fit-requires c κs = search needs
 
 returns-4 : tie.Need-returns-4
 unfolding headAnswer
@@ -44,9 +28,6 @@ returns-4 c =
       passed (points .points-fit .ensures) (counts .before .if3 .left),
       failed (counts .counts-fit .ensures) (c .if4 .taken),
     )
-
-laid-out-requires : tie.Need-laid-out-requires
-laid-out-requires c κs = search needs
 
 returns-5 : tie.Need-returns-5
 unfolding headAnswer
@@ -81,15 +62,9 @@ returns-6 c =
     )
 
 pub head-answer-spec : {M : Type 1} → statement M
+unfolding headAnswer
 head-answer-spec =
     tie.close
-    (tie.spec
-    returns
-    returns-2
-    points-fit-requires
-    returns-3
-    counts-fit-requires
-    returns-4
-    laid-out-requires
-    returns-5
-    returns-6)
+    (tie.spec (λ c. simp (lt-leb _ _ (c .if1 .taken)))
+    (λ c. simp (le-leb _ _ (c .before .before .if1 .left), ne-eqb _ _ (c .if2 .taken)))
+    (λ c κs. search needs) returns-3 (λ c κs. search needs) returns-4 (λ c κs. search needs) returns-5 returns-6)

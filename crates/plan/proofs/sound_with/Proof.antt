@@ -4,15 +4,9 @@ use borrow.Author.Needs.{needs}
 use mir.Syntax.{w32}
 use mir.ValLaws.{toZ-ofZ}
 use Rattle.rules.specs.Plan.{Limit}
-use Rattle.plan.proofs.Order.{add-stop, add-own, add-next}
+use Rattle.plan.proofs.FirstRefusal.{add-stop, add-own, add-next}
 use Rattle.plan.proofs.sound_with.Statement.{statement}
 use Rattle.plan.proofs.sound_with.Tie as tie
-
-front-requires : tie.Need-front-requires
-front-requires c κs = search needs
-
-accepted-requires : tie.Need-accepted-requires
-accepted-requires c κs = search needs
 
 returns : tie.Need-returns
 returns c =
@@ -21,12 +15,6 @@ returns c =
     let a = front .before .before .args in
     let added : Limit = record { from = a .x; to = a .y; weight = a .w } in
     add-stop (a .file .now) (ok .accepted .ensures) (front .front .ensures) added (c .if1 .taken)
-
-head-requires : tie.Need-head-requires
-head-requires c κs = search needs
-
-limit-fits-requires : tie.Need-limit-fits-requires
-limit-fits-requires c κs = search needs
 
 returns-2 : tie.Need-returns-2
 returns-2 c =
@@ -44,9 +32,6 @@ returns-2 c =
     added
     (rw weight at (fit .limit-fits .ensures))
     (c .if2 .taken)
-
-links-requires : tie.Need-links-requires
-links-requires c κs = search needs
 
 returns-3 : tie.Need-returns-3
 returns-3 c =
@@ -69,12 +54,5 @@ returns-3 c =
 pub sound-with-spec : {M : Type 1} → statement M
 sound-with-spec =
     tie.close
-    (tie.spec
-    front-requires
-    accepted-requires
-    returns
-    head-requires
-    limit-fits-requires
-    returns-2
-    links-requires
-    returns-3)
+    (tie.spec (λ c κs. search needs) (λ c κs. search needs) returns (λ c κs. search needs) (λ c κs. search needs)
+    returns-2 (λ c κs. search needs) returns-3)

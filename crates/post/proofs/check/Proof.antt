@@ -3,15 +3,9 @@ use mathlib.Core.Path.{_≡_}
 use borrow.Author.Needs.{needs}
 use Rattle.rules.specs.declared.Answer.the-variants.{Done}
 use Rattle.plan.specs.File.{fileAnswer}
-use Rattle.post.proofs.Checks.{file-refused, file-done, ready, cells-small, strict-short, open-short, are-closed, are-not}
+use Rattle.post.proofs.CheckAnswers.{file-refused, file-done, ready, cells-small, strict-short, open-short, are-closed, are-not}
 use Rattle.post.proofs.check.Statement.{statement}
 use Rattle.post.proofs.check.Tie as tie
-
-sound-requires : tie.Need-sound-requires
-sound-requires c κs = search needs
-
-accepted-requires : tie.Need-accepted-requires
-accepted-requires c κs = search needs
 
 returns : tie.Need-returns
 returns c =
@@ -20,18 +14,12 @@ returns c =
     file-refused (a .file .now) (sound .result) (sound .ensures) (c .before .accepted .result) (c .before .accepted .ensures) (a .strict .now)
     (a .«open» .now) (c .if1 .taken)
 
-head-requires : tie.Need-head-requires
-head-requires c κs = search needs
-
 -- past the first test the file is sound
 done : (c : tie.After-head) → fileAnswer (c .before .before .before .before .before .args .file .now) ≡ Done
 done c =
     let s = c .before .before .before in
     file-done (s .before .before .args .file .now) (s .sound .result) (s .sound .ensures) (c .before .before .accepted .result)
     (c .before .before .accepted .ensures) (c .before .if1 .left)
-
-cast-n : tie.Need-cast-n
-cast-n c = search needs
 
 mul-cells : tie.Need-mul-cells
 mul-cells c =
@@ -73,15 +61,5 @@ returns-5 c =
 pub check-spec : {M : Type 1} → statement M
 check-spec =
     tie.close
-    (tie.spec
-    sound-requires
-    accepted-requires
-    returns
-    head-requires
-    cast-n
-    mul-cells
-    returns-2
-    returns-3
-    closed-requires
-    returns-4
-    returns-5)
+    (tie.spec (λ c κs. search needs) (λ c κs. search needs) returns (λ c κs. search needs) (λ c. search needs)
+    mul-cells returns-2 returns-3 closed-requires returns-4 returns-5)

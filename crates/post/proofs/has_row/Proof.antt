@@ -1,7 +1,7 @@
 -- `has_row` meets its contract. Assumes nothing.
 use native.Mathlib.Omega.{arith}
 use Rattle.whole.proofs.Place.{square-le}
-use Rattle.post.proofs.Rows.{too-many, else}
+use Rattle.post.proofs.RowAnswers.{too-many, else}
 use Rattle.post.proofs.has_row.Statement.{statement}
 use Rattle.post.proofs.has_row.Tie as tie
 
@@ -10,13 +10,10 @@ returns c =
     let a = c .before .args in
     too-many (a .strict) (a .«open») (a .n) (a .x) (c .if1 .taken)
 
-mul-cells : tie.Need-mul-cells
-mul-cells c = omega (arith, square-le (c .if1 .left))
-
 returns-2 : tie.Need-returns-2
 returns-2 c =
     let a = c .before .args in
     else (a .strict) (a .«open») (a .n) (a .x) (c .if1 .left)
 
 pub has-row-spec : {M : Type 1} → statement M
-has-row-spec = tie.close (tie.spec returns mul-cells returns-2)
+has-row-spec = tie.close (tie.spec returns (λ c. omega (arith, square-le (c .if1 .left))) returns-2)

@@ -1,24 +1,9 @@
 -- `wide::lower_cell` meets its contract: a cell read, the new one stored if it is smaller, and written. Assumes nothing.
 use borrow.Author.Needs.{needs}
 use Rattle.cell.specs.Steps.{adding, cell64}
-use Rattle.tables.proofs.Turns.{lowering-is}
+use Rattle.lowering.proofs.Code.LoopTurns.{lowering-is}
 use Rattle.wide.proofs.lower_cell.Statement.{statement}
 use Rattle.wide.proofs.lower_cell.Tie as tie
-
-get-requires : tie.Need-get-requires
-get-requires c κs = search needs
-
-kept-requires : tie.Need-kept-requires
-kept-requires c κs = search needs
-
-smaller-requires : tie.Need-smaller-requires
-smaller-requires c κs = search needs
-
-put-requires : tie.Need-put-requires
-put-requires c κs = search needs
-
-same-length : tie.Need-same-length
-same-length c = search needs
 
 returns : tie.Need-returns
 returns c =
@@ -33,4 +18,5 @@ returns c =
 pub lower-cell-spec : {M : Type 1} → statement M
 lower-cell-spec =
     tie.close
-    (tie.spec get-requires kept-requires smaller-requires put-requires same-length returns)
+    (tie.spec (λ c κs. search needs) (λ c κs. search needs) (λ c κs. search needs) (λ c κs. search needs)
+    (λ c. search needs) returns)

@@ -2,7 +2,7 @@
 use mir.Syntax.{w32}
 use mir.Val.{SFits}
 use Rattle.whole.proofs.Bits.{back, fit}
-use Rattle.cell.proofs.Laws.{room32, below-flag}
+use Rattle.cell.proofs.CellMethods.{room32, below-flag}
 use Rattle.cell.proofs.Cell32.below.Statement.{statement}
 use Rattle.cell.proofs.Cell32.below.Tie as tie
 

@@ -5,28 +5,19 @@ use Rattle.whole.proofs.Bits.{tested}
 use Rattle.rules.specs.Plan.{version1}
 use Rattle.rules.specs.Cells.{num}
 use Rattle.cell.specs.Steps.{cell32}
-use Rattle.cell.proofs.Laws.{is-mark, no-mark, reach-mark, reach-above, reach-below, reach-within}
+use Rattle.cell.proofs.CellMethods.{is-mark, no-mark, reach-mark, reach-above, reach-below, reach-within}
 use Rattle.cell.proofs.Cell32.in_reach.Statement.{statement}
 use Rattle.cell.proofs.Cell32.in_reach.Tie as tie
 
 cell : (c : tie.Else1) → cell32 (c .before .before .args .self .v) ≡ num (c .before .before .args .self .v)
 cell c = no-mark (version1 .mark) (c .before .before .args .self .v) (c .before .is-mark .ensures) (c .if1 .left)
 
-is-mark-requires : tie.Need-is-mark-requires
-is-mark-requires c κs = search needs
-
 returns : tie.Need-returns
 returns c = reach-mark (version1 .reach) (cell32 (c .before .before .args .self .v)) (is-mark (c .before .is-mark .ensures) (c .if1 .taken))
-
-less-requires : tie.Need-less-requires
-less-requires c κs = search needs
 
 returns-2 : tie.Need-returns-2
 unfolding version1
 returns-2 c = reach-above (version1 .reach) (cell (c .before .before)) (tested (c .before .less .ensures) (c .if2 .taken))
-
-less-requires-2 : tie.Need-less-requires-2
-less-requires-2 c κs = search needs
 
 returns-3 : tie.Need-returns-3
 unfolding version1
@@ -43,4 +34,5 @@ returns-4 c =
 pub in-reach-spec : {M : Type 1} → statement M
 in-reach-spec =
     tie.close
-    (tie.spec is-mark-requires returns less-requires returns-2 less-requires-2 returns-3 returns-4)
+    (tie.spec (λ c κs. search needs) returns (λ c κs. search needs) returns-2 (λ c κs. search needs) returns-3
+    returns-4)

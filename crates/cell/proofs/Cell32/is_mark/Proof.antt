@@ -2,7 +2,7 @@
 use mir.Syntax.{w32}
 use Rattle.whole.proofs.Bits.{fit}
 use Rattle.rules.specs.Plan.{version1}
-use Rattle.cell.proofs.Laws.{room32, mark-flag}
+use Rattle.cell.proofs.CellMethods.{room32, mark-flag}
 use Rattle.cell.proofs.Cell32.is_mark.Statement.{statement}
 use Rattle.cell.proofs.Cell32.is_mark.Tie as tie
 

@@ -4,9 +4,6 @@ use Rattle.rules.specs.Plan.{version1}
 use Rattle.cell.proofs.Cell32.mark.Statement.{statement}
 use Rattle.cell.proofs.Cell32.mark.Tie as tie
 
-returns : tie.Need-returns
-unfolding version1
-returns c = refl
-
 pub mark-spec : {M : Type 1} → statement M
-mark-spec = tie.close (tie.spec returns)
+unfolding version1
+mark-spec = tie.close (tie.spec (λ c. refl))

@@ -6,13 +6,6 @@ use Rattle.rules.specs.Plan.{version1}
 use Rattle.cell.proofs.Cell32.of.Statement.{statement}
 use Rattle.cell.proofs.Cell32.of.Tie as tie
 
-cast-t2 : tie.Need-cast-t2
-unfolding version1
-cast-t2 c = omega signed
-
-returns : tie.Need-returns
-unfolding version1
-returns c = cast-pos w32 (c .args .n) (omega arith)
-
 pub of-spec : {M : Type 1} → statement M
-of-spec = tie.close (tie.spec cast-t2 returns)
+unfolding version1
+of-spec = tie.close (tie.spec (λ c. omega signed) (λ c. cast-pos w32 (c .args .n) (omega arith)))

@@ -2,7 +2,7 @@
 use borrow.Author.Needs.{needs}
 use Rattle.rules.specs.Plan.{version1}
 use Rattle.cell.specs.Steps.{cell32}
-use Rattle.cell.proofs.Laws.{Number, Sum, number, sum, is-mark, room32, join-left, join-right, join-far}
+use Rattle.cell.proofs.CellMethods.{Number, Sum, number, sum, is-mark, room32, join-left, join-right, join-far}
 use Rattle.cell.proofs.Cell32.onward.Statement.{statement}
 use Rattle.cell.proofs.Cell32.onward.Tie as tie
 
@@ -14,25 +14,14 @@ second c =
     let s = c .before .before .before .before in
     number (s .args .o .v) (c .before .is-mark2 .ensures) (c .if2 .left) (s .pre .1)
 
-is-mark-requires : tie.Need-is-mark-requires
-is-mark-requires c κs = search needs
-
-returns : tie.Need-returns
-returns c = join-left _ (is-mark (c .before .is-mark .ensures) (c .if1 .taken))
-
-is-mark-requires-2 : tie.Need-is-mark-requires-2
-is-mark-requires-2 c κs = search needs
-
 returns-2 : tie.Need-returns-2
 returns-2 c = join-right (cell32 (c .before .before .before .before .args .self .v)) (is-mark (c .before .is-mark2 .ensures) (c .if2 .taken))
-
-plus-requires : tie.Need-plus-requires
-plus-requires c κs = join-far room32 (first (c .before .before)) (second c) .fits
-
-returns-3 : tie.Need-returns-3
-returns-3 c = rw (c .plus .ensures) (join-far room32 (first (c .before .before .before)) (second (c .before)) .is)
 
 pub onward-spec : {M : Type 1} → statement M
 onward-spec =
     tie.close
-    (tie.spec is-mark-requires returns is-mark-requires-2 returns-2 plus-requires returns-3)
+    (tie.spec (λ c κs. search needs)
+    (λ c. join-left _ (is-mark (c .before .is-mark .ensures) (c .if1 .taken)))
+    (λ c κs. search needs) returns-2
+    (λ c κs. join-far room32 (first (c .before .before)) (second c) .fits)
+    (λ c. rw (c .plus .ensures) (join-far room32 (first (c .before .before .before)) (second (c .before)) .is)))

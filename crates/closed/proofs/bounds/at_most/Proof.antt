@@ -2,15 +2,9 @@
 use borrow.Author.Needs.{needs}
 use Rattle.rules.specs.Cells.{Cell, _≤ᶜ_}
 use Rattle.cell.specs.Steps.{cell32}
-use Rattle.closed.proofs.Exceeds.{decides-cell}
+use Rattle.closed.proofs.CellTests.{decides-cell}
 use Rattle.closed.proofs.bounds.at_most.Statement.{statement}
 use Rattle.closed.proofs.bounds.at_most.Tie as tie
-
-get-requires : tie.Need-get-requires
-get-requires c κs = search needs
-
-under-requires : tie.Need-under-requires
-under-requires c κs = search needs
 
 returns : tie.Need-returns
 returns c =
@@ -19,4 +13,4 @@ returns c =
     (c .under .ensures)
 
 pub at-most-spec : {M : Type 1} → statement M
-at-most-spec = tie.close (tie.spec get-requires under-requires returns)
+at-most-spec = tie.close (tie.spec (λ c κs. search needs) (λ c κs. search needs) returns)

@@ -1,12 +1,9 @@
 -- `bounds::under` meets its contract. Assumes nothing.
 use borrow.Author.Needs.{needs}
 use Rattle.cell.specs.Steps.{cell32}
-use Rattle.closed.proofs.Exceeds.{exceeds, exceeds-not}
+use Rattle.closed.proofs.CellTests.{exceeds, exceeds-not}
 use Rattle.closed.proofs.bounds.under.Statement.{statement}
 use Rattle.closed.proofs.bounds.under.Tie as tie
-
-below-requires : tie.Need-below-requires
-below-requires c κs = search needs
 
 returns : tie.Need-returns
 returns c =
@@ -19,4 +16,4 @@ returns-2 c =
     exceeds-not (cell32 (a .a .v)) (cell32 (a .b .v)) (c .before .below .ensures) (c .if1 .left)
 
 pub under-spec : {M : Type 1} → statement M
-under-spec = tie.close (tie.spec below-requires returns returns-2)
+under-spec = tie.close (tie.spec (λ c κs. search needs) returns returns-2)

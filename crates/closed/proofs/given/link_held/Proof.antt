@@ -5,21 +5,9 @@ use lib.IntN.{pos, negℤ}
 use Rattle.rules.specs.Plan.{version1}
 use Rattle.rules.specs.Cells.{tableOf}
 use Rattle.plan.specs.Values.{linkOf}
-use Rattle.closed.proofs.Edges.{decides-number, span-small, shortest-fits, shortest-small, longest-fails, shortest-decides}
+use Rattle.closed.proofs.EdgeTests.{decides-number, span-small, shortest-fits, shortest-small, longest-fails, shortest-decides}
 use Rattle.closed.proofs.given.link_held.Statement.{statement}
 use Rattle.closed.proofs.given.link_held.Tie as tie
-
-cast-act : tie.Need-cast-act
-cast-act c = search needs
-
-cast-con : tie.Need-cast-con
-cast-con c = search needs
-
-of-requires : tie.Need-of-requires
-of-requires c κs = search needs
-
-at-most-requires : tie.Need-at-most-requires
-at-most-requires c κs = search needs
 
 returns : tie.Need-returns
 returns c =
@@ -30,16 +18,10 @@ returns c =
     (decides-number (t (k .act) (k .con)) (pos (k .long)) (c .before .before .of .result .v) (c .before .before .of .ensures)
     (span-small (s .pre .0 .most)) (c .before .at-most .ensures)) (c .if1 .taken)
 
-of-requires-2 : tie.Need-of-requires-2
-of-requires-2 c κs = search needs
-
 negated-requires : tie.Need-negated-requires
 negated-requires c κs =
     let s = c .before .before .before .before .before .before in
     shortest-fits (s .args .n) (linkOf (s .args .link)) (c .of2 .result .v) (s .pre .0) (c .of2 .ensures)
-
-at-most-requires-2 : tie.Need-at-most-requires-2
-at-most-requires-2 c κs = search needs
 
 returns-2 : tie.Need-returns-2
 returns-2 c =
@@ -57,13 +39,5 @@ returns-2 c =
 pub link-held-spec : {M : Type 1} → statement M
 link-held-spec =
     tie.close
-    (tie.spec
-    cast-act
-    cast-con
-    of-requires
-    at-most-requires
-    returns
-    of-requires-2
-    negated-requires
-    at-most-requires-2
-    returns-2)
+    (tie.spec (λ c. search needs) (λ c. search needs) (λ c κs. search needs) (λ c κs. search needs) returns
+    (λ c κs. search needs) negated-requires (λ c κs. search needs) returns-2)

@@ -4,15 +4,9 @@ use native.Mathlib.Omega.{arith}
 use lib.IntN.{pos}
 use Rattle.rules.specs.Plan.{version1}
 use Rattle.rules.specs.Cells.{tableOf}
-use Rattle.closed.proofs.Edges.{decides-number, span-small}
+use Rattle.closed.proofs.EdgeTests.{decides-number, span-small}
 use Rattle.closed.proofs.given.start_held.Statement.{statement}
 use Rattle.closed.proofs.given.start_held.Tie as tie
-
-of-requires : tie.Need-of-requires
-of-requires c κs = search needs
-
-at-most-requires : tie.Need-at-most-requires
-at-most-requires c κs = search needs
 
 returns : tie.Need-returns
 returns c =
@@ -21,4 +15,4 @@ returns c =
     (span-small (omega arith)) (c .at-most .ensures)
 
 pub start-held-spec : {M : Type 1} → statement M
-start-held-spec = tie.close (tie.spec of-requires at-most-requires returns)
+start-held-spec = tie.close (tie.spec (λ c κs. search needs) (λ c κs. search needs) returns)

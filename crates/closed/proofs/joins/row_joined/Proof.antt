@@ -7,10 +7,10 @@ use native.Mathlib.Omega.{arith}
 use Rattle.rules.specs.Plan.{version1}
 use Rattle.rules.specs.Cells.{_+ᶜ_, _≤ᶜ_, tableOf}
 use Rattle.cell.specs.Steps.{Decides}
-use Rattle.cell.proofs.Laws.{is-mark, decided-yes}
-use Rattle.tables.proofs.Turns.{read-stored, read-cell}
-use Rattle.closed.proofs.Exceeds.{row-at-mark, decides-sum}
-use Rattle.closed.proofs.Loops.{Tried, none-tried, tried-more, tried-failed, all-tried}
+use Rattle.cell.proofs.CellMethods.{is-mark, decided-yes}
+use Rattle.lowering.proofs.Code.LoopTurns.{read-stored, read-cell}
+use Rattle.closed.proofs.CellTests.{row-at-mark, decides-sum}
+use Rattle.closed.proofs.TestLoops.{Tried, none-tried, tried-more, tried-failed, all-tried}
 use Rattle.closed.proofs.joins.row_joined.Statement.{statement}
 use Rattle.closed.proofs.joins.row_joined.Tie as tie
 
@@ -21,12 +21,6 @@ Inv-loop t n y x a held₀ z₀ held z =
 abbrev μ-loop : tie.MeasureT-loop
 μ-loop t n y x a held₀ z₀ held z = n - z
 
-get-requires : tie.Need-get-requires Inv-loop μ-loop
-get-requires c κs = search needs
-
-is-mark-requires : tie.Need-is-mark-requires Inv-loop μ-loop
-is-mark-requires c κs = search needs
-
 returns : tie.Need-returns Inv-loop μ-loop
 returns c =
     let s = c .before .before .before in
@@ -35,12 +29,6 @@ returns c =
     decided-yes
     (row-at-mark (s .args .n) (s .args .y) (s .args .x) (s .args .t .now)
     (sym (read-cell version1 (s .args .n) (s .args .x) (s .args .y) (s .args .t .now) (get .result .v) (get .ensures)) ∙ cell))
-
-loop-holds : tie.Need-loop-holds Inv-loop μ-loop
-loop-holds c = none-tried _ _
-
-get-requires-2 : tie.Need-get-requires-2 Inv-loop μ-loop
-get-requires-2 c κs = search needs
 
 add-requires : tie.Need-add-requires Inv-loop μ-loop
 add-requires c κs =
@@ -51,9 +39,6 @@ add-requires c κs =
       read-stored version1 (s .args .n) (s .args .y) z (s .args .t .now) (c .get2 .result .v) (s .pre .3) (s .pre .1) (omega arith)
           (c .get2 .ensures),
     )
-
-at-most-requires : tie.Need-at-most-requires Inv-loop μ-loop
-at-most-requires c κs = search needs
 
 -- the turn's test decides the turn's sum
 sum-decided : (c : tie.After-at-most Inv-loop μ-loop)
@@ -68,35 +53,16 @@ sum-decided c =
     (c .before .before .get2 .result .v) (c .before .add .result .v) (get .ensures) (c .before .before .get2 .ensures) (c .before .add .ensures)
     (c .at-most .ensures)
 
-add-z : tie.Need-add-z Inv-loop μ-loop
-add-z c = search needs
-
-loop-less : tie.Need-loop-less Inv-loop μ-loop
-loop-less c = search needs
-
 loop-again : tie.Need-loop-again Inv-loop μ-loop
 loop-again c =
     let loop = c .before .before .before .before .before .loop in
     ⊎-elim (λ q. rw (q .1) (tried-failed _ _ (loop .z) (loop .inv) (omega arith) (sum-decided (c .before)) (q .0 .taken)))
     (λ q. rw (q .1) (tried-more _ _ (loop .z) (loop .inv) (omega arith) (sum-decided (c .before)) (q .0 .left))) (c .if2 .came)
 
-returns-2 : tie.Need-returns-2 Inv-loop μ-loop
-returns-2 c = all-tried _ _ (c .before .loop .z) (c .before .loop .inv) (omega arith)
-
 pub row-joined-spec : {M : Type 1} → statement M
 row-joined-spec =
     tie.close
-    (tie.spec
-    Inv-loop
-    μ-loop
-    get-requires
-    is-mark-requires
-    returns
-    loop-holds
-    get-requires-2
-    add-requires
-    at-most-requires
-    add-z
-    loop-less
-    loop-again
-    returns-2)
+    (tie.spec Inv-loop μ-loop
+    (λ c κs. search needs) (λ c κs. search needs) returns (λ c. none-tried _ _) (λ c κs. search needs) add-requires
+    (λ c κs. search needs) (λ c. search needs) (λ c. search needs) loop-again
+    (λ c. all-tried _ _ (c .before .loop .z) (c .before .loop .inv) (omega arith)))

@@ -4,8 +4,8 @@ use native.Mathlib.Omega.{arith}
 use Rattle.rules.specs.Plan.{version1}
 use Rattle.rules.specs.Cells.{tableOf}
 use Rattle.plan.specs.Values.{linkOf}
-use Rattle.tables.proofs.Turns.{read-stored}
-use Rattle.closed.proofs.Edges.{lower-itself, lower-decides}
+use Rattle.lowering.proofs.Code.LoopTurns.{read-stored}
+use Rattle.closed.proofs.EdgeTests.{lower-itself, lower-decides}
 use Rattle.closed.proofs.lower.pair_lowered.Statement.{statement}
 use Rattle.closed.proofs.lower.pair_lowered.Tie as tie
 
@@ -13,21 +13,6 @@ returns : tie.Need-returns
 returns c =
     let a = c .before .before .before .args in
     lower-itself (tableOf version1 (a .n) (a .t .now)) (linkOf (a .link)) (linkOf (a .other)) (c .if1 .taken)
-
-cast-act : tie.Need-cast-act
-cast-act c = search needs
-
-cast-con : tie.Need-cast-con
-cast-con c = search needs
-
-cast-to : tie.Need-cast-to
-cast-to c = search needs
-
-get-requires : tie.Need-get-requires
-get-requires c κs = search needs
-
-sub-lower : tie.Need-sub-lower
-sub-lower c = search needs
 
 lower-requires : tie.Need-lower-requires
 lower-requires c κs =
@@ -40,9 +25,6 @@ lower-requires c κs =
       omega (arith, s .pre .1 .order, s .pre .1 .most),
     )
 
-at-most-requires : tie.Need-at-most-requires
-at-most-requires c κs = search needs
-
 returns-2 : tie.Need-returns-2
 returns-2 c =
     let s = c .before .before .before .before .before .before .before .before .before .before in
@@ -53,13 +35,5 @@ returns-2 c =
 pub pair-lowered-spec : {M : Type 1} → statement M
 pair-lowered-spec =
     tie.close
-    (tie.spec
-    returns
-    cast-act
-    cast-con
-    cast-to
-    get-requires
-    sub-lower
-    lower-requires
-    at-most-requires
-    returns-2)
+    (tie.spec returns (λ c. search needs) (λ c. search needs) (λ c. search needs) (λ c κs. search needs)
+    (λ c. search needs) lower-requires (λ c κs. search needs) returns-2)

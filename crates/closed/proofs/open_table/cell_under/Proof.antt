@@ -2,15 +2,9 @@
 use borrow.Author.Needs.{needs}
 use Rattle.rules.specs.Plan.{version1}
 use Rattle.rules.specs.Cells.{Cell, _≤ᶜ_, tableOf}
-use Rattle.closed.proofs.Exceeds.{decides-cell}
+use Rattle.closed.proofs.CellTests.{decides-cell}
 use Rattle.closed.proofs.open_table.cell_under.Statement.{statement}
 use Rattle.closed.proofs.open_table.cell_under.Tie as tie
-
-get-requires : tie.Need-get-requires
-get-requires c κs = search needs
-
-at-most-requires : tie.Need-at-most-requires
-at-most-requires c κs = search needs
 
 returns : tie.Need-returns
 returns c =
@@ -19,4 +13,4 @@ returns c =
     (c .before .get .result .v) (c .before .get .ensures) (c .at-most .ensures)
 
 pub cell-under-spec : {M : Type 1} → statement M
-cell-under-spec = tie.close (tie.spec get-requires at-most-requires returns)
+cell-under-spec = tie.close (tie.spec (λ c κs. search needs) (λ c κs. search needs) returns)

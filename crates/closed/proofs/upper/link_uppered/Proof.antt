@@ -6,7 +6,7 @@ use Rattle.rules.specs.Plan.{version1}
 use Rattle.rules.specs.Cells.{tableOf}
 use Rattle.plan.specs.Values.{linkOf}
 use Rattle.closed.specs.Parts.{PointUppered}
-use Rattle.closed.proofs.Loops.{Passed, none-yet, one-more, one-failed, all-passed}
+use Rattle.closed.proofs.TestLoops.{Passed, none-yet, one-more, one-failed, all-passed}
 use Rattle.closed.proofs.upper.link_uppered.Statement.{statement}
 use Rattle.closed.proofs.upper.link_uppered.Tie as tie
 
@@ -16,32 +16,19 @@ Inv-loop t n link x₀ x = Passed n (PointUppered (tableOf version1 n t) (linkOf
 abbrev μ-loop : tie.MeasureT-loop
 μ-loop t n link x₀ x = n - x
 
-loop-holds : tie.Need-loop-holds Inv-loop μ-loop
-loop-holds c = none-yet _ _
-
-point-uppered-requires : tie.Need-point-uppered-requires Inv-loop μ-loop
-point-uppered-requires c κs = search needs
-
 returns : tie.Need-returns Inv-loop μ-loop
 returns c =
     let loop = c .before .before .before .loop in
     one-failed _ _ (loop .x) (omega arith) (c .before .point-uppered .ensures) (c .if1 .taken)
-
-add-x : tie.Need-add-x Inv-loop μ-loop
-add-x c = search needs
-
-loop-less : tie.Need-loop-less Inv-loop μ-loop
-loop-less c = search needs
 
 loop-again : tie.Need-loop-again Inv-loop μ-loop
 loop-again c =
     let loop = c .before .before .before .loop in
     one-more _ _ (loop .x) (loop .inv) (omega arith) (c .before .point-uppered .ensures) (c .if1 .left)
 
-returns-2 : tie.Need-returns-2 Inv-loop μ-loop
-returns-2 c = all-passed _ _ (c .before .loop .x) (c .before .loop .inv) (omega arith)
-
 pub link-uppered-spec : {M : Type 1} → statement M
 link-uppered-spec =
     tie.close
-    (tie.spec Inv-loop μ-loop loop-holds point-uppered-requires returns add-x loop-less loop-again returns-2)
+    (tie.spec Inv-loop μ-loop
+    (λ c. none-yet _ _) (λ c κs. search needs) returns (λ c. search needs) (λ c. search needs) loop-again
+    (λ c. all-passed _ _ (c .before .loop .x) (c .before .loop .inv) (omega arith)))

@@ -3,19 +3,10 @@ use borrow.Author.Needs.{needs}
 use native.Mathlib.Omega.{arith}
 use Rattle.rules.specs.Plan.{version1}
 use Rattle.plan.specs.Values.{linkOf}
-use Rattle.tables.proofs.Turns.{read-stored}
-use Rattle.closed.proofs.Edges.{upper-decides}
+use Rattle.lowering.proofs.Code.LoopTurns.{read-stored}
+use Rattle.closed.proofs.EdgeTests.{upper-decides}
 use Rattle.closed.proofs.upper.point_uppered.Statement.{statement}
 use Rattle.closed.proofs.upper.point_uppered.Tie as tie
-
-cast-act : tie.Need-cast-act
-cast-act c = search needs
-
-cast-con : tie.Need-cast-con
-cast-con c = search needs
-
-get-requires : tie.Need-get-requires
-get-requires c κs = search needs
 
 upper-requires : tie.Need-upper-requires
 upper-requires c κs =
@@ -26,9 +17,6 @@ upper-requires c κs =
       s .pre .0 .most,
     )
 
-at-most-requires : tie.Need-at-most-requires
-at-most-requires c κs = search needs
-
 returns : tie.Need-returns
 returns c =
     let a = c .before .before .before .before .before .args in
@@ -37,4 +25,6 @@ returns c =
 
 pub point-uppered-spec : {M : Type 1} → statement M
 point-uppered-spec =
-    tie.close (tie.spec cast-act cast-con get-requires upper-requires at-most-requires returns)
+    tie.close
+    (tie.spec (λ c. search needs) (λ c. search needs) (λ c κs. search needs) upper-requires (λ c κs. search needs)
+    returns)

@@ -2,15 +2,9 @@
 use borrow.Author.Needs.{needs}
 use Rattle.rules.specs.Plan.{version1}
 use Rattle.rules.specs.Cells.{Within}
-use Rattle.closed.proofs.Exceeds.{decides-cell}
+use Rattle.closed.proofs.CellTests.{decides-cell}
 use Rattle.closed.proofs.within.cell_within.Statement.{statement}
 use Rattle.closed.proofs.within.cell_within.Tie as tie
-
-get-requires : tie.Need-get-requires
-get-requires c κs = search needs
-
-in-reach-requires : tie.Need-in-reach-requires
-in-reach-requires c κs = search needs
 
 returns : tie.Need-returns
 returns c =
@@ -19,4 +13,4 @@ returns c =
     (c .in-reach .ensures)
 
 pub cell-within-spec : {M : Type 1} → statement M
-cell-within-spec = tie.close (tie.spec get-requires in-reach-requires returns)
+cell-within-spec = tie.close (tie.spec (λ c κs. search needs) (λ c κs. search needs) returns)

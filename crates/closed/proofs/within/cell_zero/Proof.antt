@@ -5,18 +5,9 @@ use lib.IntN.{pos}
 use Rattle.whole.proofs.Order.{ints}
 use Rattle.rules.specs.Cells.{Cell, num}
 use Rattle.cell.specs.Steps.{cell32}
-use Rattle.closed.proofs.Exceeds.{decides-cell, weight-cell, not-same, same}
+use Rattle.closed.proofs.CellTests.{decides-cell, weight-cell, not-same, same}
 use Rattle.closed.proofs.within.cell_zero.Statement.{statement}
 use Rattle.closed.proofs.within.cell_zero.Tie as tie
-
-get-requires : tie.Need-get-requires
-get-requires c κs = search needs
-
-of-requires : tie.Need-of-requires
-of-requires c κs = search needs
-
-under-requires : tie.Need-under-requires
-under-requires c κs = search needs
 
 returns : tie.Need-returns
 returns c =
@@ -26,9 +17,6 @@ returns c =
     decides-cell (λ (d : Cell). d ≡ num (pos 0)) (a .n) (a .x) (a .x) (a .t .now) (get .result .v) (get .ensures)
     (not-same (cell32 (get .result .v)) (cell32 (zero .result .v)) (ap cell32 (zero .ensures) ∙ weight-cell (pos 0) (omega ints))
     (c .before .under .ensures) (c .if1 .taken))
-
-under-requires-2 : tie.Need-under-requires-2
-under-requires-2 c κs = search needs
 
 returns-2 : tie.Need-returns-2
 returns-2 c =
@@ -41,4 +29,6 @@ returns-2 c =
 
 pub cell-zero-spec : {M : Type 1} → statement M
 cell-zero-spec =
-    tie.close (tie.spec get-requires of-requires under-requires returns under-requires-2 returns-2)
+    tie.close
+    (tie.spec (λ c κs. search needs) (λ c κs. search needs) (λ c κs. search needs) returns (λ c κs. search needs)
+    returns-2)

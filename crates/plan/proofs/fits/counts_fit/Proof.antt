@@ -5,9 +5,6 @@ use Rattle.rules.specs.Plan.{version1}
 use Rattle.plan.proofs.fits.counts_fit.Statement.{statement}
 use Rattle.plan.proofs.fits.counts_fit.Tie as tie
 
-returns : tie.Need-returns
-unfolding version1
-returns c = refl
-
 pub counts-fit-spec : {M : Type 1} → statement M
-counts-fit-spec = tie.close (tie.spec returns)
+unfolding version1
+counts-fit-spec = tie.close (tie.spec (λ c. refl))

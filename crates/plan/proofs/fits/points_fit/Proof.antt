@@ -5,9 +5,6 @@ use Rattle.rules.specs.Plan.{version1}
 use Rattle.plan.proofs.fits.points_fit.Statement.{statement}
 use Rattle.plan.proofs.fits.points_fit.Tie as tie
 
-returns : tie.Need-returns
-unfolding version1
-returns c = refl
-
 pub points-fit-spec : {M : Type 1} → statement M
-points-fit-spec = tie.close (tie.spec returns)
+unfolding version1
+points-fit-spec = tie.close (tie.spec (λ c. refl))

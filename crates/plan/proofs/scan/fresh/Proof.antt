@@ -5,7 +5,7 @@ use native.Mathlib.Omega.{arith}
 use borrow.Author.Needs.{needs}
 use Rattle.plan.specs.Layout.{linkAt, earlier}
 use Rattle.plan.specs.File.{fresh}
-use Rattle.plan.proofs.Turns.{fresh-next, fresh-stop, fresh-end}
+use Rattle.plan.proofs.RecordTurns.{fresh-next, fresh-stop, fresh-end}
 use Rattle.plan.proofs.scan.fresh.Statement.{statement}
 use Rattle.plan.proofs.scan.fresh.Tie as tie
 
@@ -16,24 +16,12 @@ Inv-loop file m i con j₀ j =
 abbrev μ-loop : tie.MeasureT-loop
 μ-loop file m i con j₀ j = j
 
-loop-holds : tie.Need-loop-holds Inv-loop μ-loop
-loop-holds c = refl
-
-sub-j : tie.Need-sub-j Inv-loop μ-loop
-sub-j c = omega arith
-
-link-at-requires : tie.Need-link-at-requires Inv-loop μ-loop
-link-at-requires c κs = search needs
-
 returns : tie.Need-returns Inv-loop μ-loop
 returns c =
     let read = c .before .before in
     let turn = read .before .before in
     let a = turn .before .before .args in
     sym (turn .loop .inv ∙ fresh-stop (a .con) (linkAt (a .file .now) (a .m)) (turn .loop .j) (omega arith) (read .link-at .ensures) (c .if1 .taken))
-
-loop-less : tie.Need-loop-less Inv-loop μ-loop
-loop-less c = omega arith
 
 loop-again : tie.Need-loop-again Inv-loop μ-loop
 loop-again c =
@@ -50,13 +38,5 @@ returns-2 c =
 pub fresh-spec : {M : Type 1} → statement M
 fresh-spec =
     tie.close
-    (tie.spec
-    Inv-loop
-    μ-loop
-    loop-holds
-    sub-j
-    link-at-requires
-    returns
-    loop-less
-    loop-again
-    returns-2)
+    (tie.spec Inv-loop μ-loop
+    (λ c. refl) (λ c. omega arith) (λ c κs. search needs) returns (λ c. omega arith) loop-again returns-2)

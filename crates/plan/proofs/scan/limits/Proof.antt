@@ -8,7 +8,7 @@ use borrow.Author.Needs.{needs}
 use Rattle.rules.specs.Plan.{version1}
 use Rattle.plan.specs.Layout.{limitAt, records}
 use Rattle.plan.specs.File.{limitsAnswer}
-use Rattle.plan.proofs.Turns.{limits-next, limits-stop, limits-end}
+use Rattle.plan.proofs.RecordTurns.{limits-next, limits-stop, limits-end}
 use Rattle.plan.proofs.scan.limits.Statement.{statement}
 use Rattle.plan.proofs.scan.limits.Tie as tie
 
@@ -19,15 +19,6 @@ Inv-loop file n m i₀ i =
 abbrev μ-loop : tie.MeasureT-loop
 μ-loop file n m i₀ i = m - i
 
-loop-holds : tie.Need-loop-holds Inv-loop μ-loop
-loop-holds c = (omega arith, rw sub-zero)
-
-limit-at-requires : tie.Need-limit-at-requires Inv-loop μ-loop
-limit-at-requires c κs = search needs
-
-limit-fits-requires : tie.Need-limit-fits-requires Inv-loop μ-loop
-limit-fits-requires c κs = search needs
-
 returns : tie.Need-returns Inv-loop μ-loop
 returns c =
     let fit = c .before in
@@ -37,12 +28,6 @@ returns c =
     sym
     (turn .loop .inv .1
     ∙ limits-stop version1 (a .n) (limitAt (a .file .now)) (turn .loop .i) (a .m) (omega arith) (read .limit-at .ensures) (fit .limit-fits .ensures) (c .if1 .taken))
-
-add-i : tie.Need-add-i Inv-loop μ-loop
-add-i c = omega arith
-
-loop-less : tie.Need-loop-less Inv-loop μ-loop
-loop-less c = omega arith
 
 loop-again : tie.Need-loop-again Inv-loop μ-loop
 loop-again c =
@@ -63,14 +48,6 @@ returns-2 c =
 pub limits-spec : {M : Type 1} → statement M
 limits-spec =
     tie.close
-    (tie.spec
-    Inv-loop
-    μ-loop
-    loop-holds
-    limit-at-requires
-    limit-fits-requires
-    returns
-    add-i
-    loop-less
-    loop-again
-    returns-2)
+    (tie.spec Inv-loop μ-loop
+    (λ c. (omega arith, rw sub-zero))
+    (λ c κs. search needs) (λ c κs. search needs) returns (λ c. omega arith) (λ c. omega arith) loop-again returns-2)

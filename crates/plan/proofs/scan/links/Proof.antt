@@ -9,7 +9,7 @@ use borrow.Author.Needs.{needs}
 use Rattle.rules.specs.Plan.{version1}
 use Rattle.plan.specs.Layout.{linkAt, records, earlier}
 use Rattle.plan.specs.File.{linksAnswer}
-use Rattle.plan.proofs.Turns.{links-next, links-stop, links-repeat, links-end}
+use Rattle.plan.proofs.RecordTurns.{links-next, links-stop, links-repeat, links-end}
 use Rattle.plan.proofs.scan.links.Statement.{statement}
 use Rattle.plan.proofs.scan.links.Tie as tie
 
@@ -21,15 +21,6 @@ Inv-loop file n m k i₀ i =
 abbrev μ-loop : tie.MeasureT-loop
 μ-loop file n m k i₀ i = k - i
 
-loop-holds : tie.Need-loop-holds Inv-loop μ-loop
-loop-holds c = (omega arith, rw sub-zero)
-
-link-at-requires : tie.Need-link-at-requires Inv-loop μ-loop
-link-at-requires c κs = search needs
-
-link-fits-requires : tie.Need-link-fits-requires Inv-loop μ-loop
-link-fits-requires c κs = search needs
-
 returns : tie.Need-returns Inv-loop μ-loop
 returns c =
     let fit = c .before in
@@ -37,9 +28,6 @@ returns c =
     let turn = read .before .before in
     let a = turn .before .before .args in
     sym (turn .loop .inv .1 ∙ links-stop version1 (a .n) (linkAt (a .file .now) (a .m)) (turn .loop .i) (a .k) (omega arith) (read .link-at .ensures) (fit .link-fits .ensures) (c .if1 .taken))
-
-fresh-requires : tie.Need-fresh-requires Inv-loop μ-loop
-fresh-requires c κs = search needs
 
 returns-2 : tie.Need-returns-2 Inv-loop μ-loop
 returns-2 c =
@@ -51,12 +39,6 @@ returns-2 c =
     sym
     (turn .loop .inv .1
     ∙ links-repeat version1 (a .n) (linkAt (a .file .now) (a .m)) (turn .loop .i) (a .k) (omega arith) (read .link-at .ensures) (fit .link-fits .ensures) (new .before .if1 .left) (new .fresh .ensures) (c .if2 .taken))
-
-add-i : tie.Need-add-i Inv-loop μ-loop
-add-i c = omega arith
-
-loop-less : tie.Need-loop-less Inv-loop μ-loop
-loop-less c = omega arith
 
 loop-again : tie.Need-loop-again Inv-loop μ-loop
 loop-again c =
@@ -78,16 +60,7 @@ returns-3 c =
 pub links-spec : {M : Type 1} → statement M
 links-spec =
     tie.close
-    (tie.spec
-    Inv-loop
-    μ-loop
-    loop-holds
-    link-at-requires
-    link-fits-requires
-    returns
-    fresh-requires
-    returns-2
-    add-i
-    loop-less
-    loop-again
-    returns-3)
+    (tie.spec Inv-loop μ-loop
+    (λ c. (omega arith, rw sub-zero))
+    (λ c κs. search needs) (λ c κs. search needs) returns (λ c κs. search needs) returns-2 (λ c. omega arith)
+    (λ c. omega arith) loop-again returns-3)

@@ -1,24 +1,9 @@
 -- `faces::post_add` meets its contract: the number of Add's answer, and what Add left. Assumes nothing.
 use borrow.Author.Needs.{needs}
 use Rattle.whole.proofs.Bits.{back}
-use Rattle.adding.proofs.Answered.{weight-back}
+use Rattle.adding.proofs.AddAnswers.{weight-back}
 use Rattle.post.proofs.faces.post_add.Statement.{statement}
 use Rattle.post.proofs.faces.post_add.Tie as tie
-
-add-requires : tie.Need-add-requires
-add-requires c κs = search needs
-
-packed-requires : tie.Need-packed-requires
-packed-requires c κs = search needs
-
-same-length : tie.Need-same-length
-same-length c = search needs
-
-same-length-2 : tie.Need-same-length-2
-same-length-2 c = search needs
-
-same-length-3 : tie.Need-same-length-3
-same-length-3 c = search needs
 
 returns : tie.Need-returns
 returns c =
@@ -31,4 +16,7 @@ returns c =
     }
 
 pub post-add-spec : {M : Type 1} → statement M
-post-add-spec = tie.close (tie.spec add-requires packed-requires same-length same-length-2 same-length-3 returns)
+post-add-spec =
+    tie.close
+    (tie.spec (λ c κs. search needs) (λ c κs. search needs) (λ c. search needs) (λ c. search needs)
+    (λ c. search needs) returns)

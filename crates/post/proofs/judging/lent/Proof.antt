@@ -3,16 +3,10 @@ use borrow.Author.Needs.{needs}
 use mathlib.Core.Path.{_≡_, sym, _∙_}
 use Rattle.rules.specs.declared.Answer.the-variants.{Done}
 use Rattle.plan.specs.File.{fileAnswer}
-use Rattle.post.proofs.Checks.{cells-small}
-use Rattle.post.proofs.Judges.{is-accepted, lent-refused, lent-short-strict, lent-short-open, lent-done}
+use Rattle.post.proofs.CheckAnswers.{cells-small}
+use Rattle.post.proofs.JudgeAnswers.{is-accepted, lent-refused, lent-short-strict, lent-short-open, lent-done}
 use Rattle.post.proofs.judging.lent.Statement.{statement}
 use Rattle.post.proofs.judging.lent.Tie as tie
-
-sound-requires : tie.Need-sound-requires
-sound-requires c κs = search needs
-
-accepted-requires : tie.Need-accepted-requires
-accepted-requires c κs = search needs
 
 returns : tie.Need-returns
 returns c =
@@ -21,18 +15,12 @@ returns c =
     lent-refused (a .file .now) (a .strict) (a .«open») (sound .result) (c .before .accepted .result) (sound .ensures) (c .before .accepted .ensures)
     (c .if1 .taken)
 
-head-requires : tie.Need-head-requires
-head-requires c κs = search needs
-
 -- past the first test the file is sound
 done : (c : tie.After-head) → fileAnswer (c .before .before .before .before .before .args .file .now) ≡ Done
 done c =
     let sound = c .before .before .before .sound in
     sym (sound .ensures)
     ∙ is-accepted (sound .result) (c .before .before .accepted .result) (c .before .before .accepted .ensures) (c .before .if1 .left)
-
-cast-n : tie.Need-cast-n
-cast-n c = search needs
 
 mul-cells : tie.Need-mul-cells
 mul-cells c =
@@ -60,13 +48,5 @@ returns-4 c =
 pub lent-spec : {M : Type 1} → statement M
 lent-spec =
     tie.close
-    (tie.spec
-    sound-requires
-    accepted-requires
-    returns
-    head-requires
-    cast-n
-    mul-cells
-    returns-2
-    returns-3
-    returns-4)
+    (tie.spec (λ c κs. search needs) (λ c κs. search needs) returns (λ c κs. search needs) (λ c. search needs)
+    mul-cells returns-2 returns-3 returns-4)

@@ -1,16 +1,10 @@
 -- `timing::earliest` meets its contract: what comes before the work, room for the times, no links, and the work. Assumes nothing.
 use borrow.Author.Needs.{needs}
 use lib.ListN.{length}
-use Rattle.post.proofs.Judges.{Enough, not-accepted, is-accepted, lent-enough, enough-cells}
-use Rattle.post.proofs.Times.{lent-timed, times-short, times-links, ready-no-links}
+use Rattle.post.proofs.JudgeAnswers.{Enough, not-accepted, is-accepted, lent-enough, enough-cells}
+use Rattle.post.proofs.EarliestAnswers.{lent-timed, times-short, times-links, ready-no-links}
 use Rattle.post.proofs.timing.earliest.Statement.{statement}
 use Rattle.post.proofs.timing.earliest.Tie as tie
-
-lent-requires : tie.Need-lent-requires
-lent-requires c κs = search needs
-
-accepted-requires : tie.Need-accepted-requires
-accepted-requires c κs = search needs
 
 returns : tie.Need-returns
 returns c =
@@ -19,9 +13,6 @@ returns c =
     lent-timed (a .strict .now) (a .«open» .now) (a .times .now) (lent .ensures)
     (not-accepted (lent .result) (c .before .accepted .result) (c .before .accepted .ensures) (c .if1 .taken))
 
-head-requires : tie.Need-head-requires
-head-requires c κs = search needs
-
 -- past the first test the file is sound and both tables have room
 enough : (c : tie.After-head) → Enough (c .before .before .before .before .before .args .file .now)
     (length (c .before .before .before .before .before .args .strict .now)) (length (c .before .before .before .before .before .args .«open» .now))
@@ -29,9 +20,6 @@ enough c =
     let lent = c .before .before .before .lent in
     let accepted = c .before .before .accepted in
     lent-enough (lent .ensures) (is-accepted (lent .result) (accepted .result) (accepted .ensures) (c .before .if1 .left))
-
-cast-n : tie.Need-cast-n
-cast-n c = search needs
 
 returns-2 : tie.Need-returns-2
 returns-2 c =
@@ -58,31 +46,8 @@ timed-requires c κs =
       c .before .before .before .before .if2 .left,
     )
 
-same-length : tie.Need-same-length
-same-length c = search needs
-
-same-length-2 : tie.Need-same-length-2
-same-length-2 c = search needs
-
-same-length-3 : tie.Need-same-length-3
-same-length-3 c = search needs
-
-returns-4 : tie.Need-returns-4
-returns-4 c = search needs
-
 pub earliest-spec : {M : Type 1} → statement M
 earliest-spec =
     tie.close
-    (tie.spec
-    lent-requires
-    accepted-requires
-    returns
-    head-requires
-    cast-n
-    returns-2
-    returns-3
-    timed-requires
-    same-length
-    same-length-2
-    same-length-3
-    returns-4)
+    (tie.spec (λ c κs. search needs) (λ c κs. search needs) returns (λ c κs. search needs) (λ c. search needs)
+    returns-2 returns-3 timed-requires (λ c. search needs) (λ c. search needs) (λ c. search needs) (λ c. search needs))

@@ -2,23 +2,11 @@
 use borrow.Author.Needs.{needs}
 use Prim.Native.Nat.{_≤_}
 use Rattle.rules.specs.Plan.{version1}
-use Rattle.tables.proofs.Ready.{ready-few}
-use Rattle.post.proofs.Judges.{not-accepted, is-accepted}
-use Rattle.post.proofs.Times.{refused-timed, written-of, written-sound, timed-done}
+use Rattle.lowering.proofs.Code.ReadyFile.{ready-few}
+use Rattle.post.proofs.JudgeAnswers.{not-accepted, is-accepted}
+use Rattle.post.proofs.EarliestAnswers.{refused-timed, written-of, written-sound, timed-done}
 use Rattle.post.proofs.timing.timed.Statement.{statement}
 use Rattle.post.proofs.timing.timed.Tie as tie
-
-judge-sound-requires : tie.Need-judge-sound-requires
-judge-sound-requires c κs = search needs
-
-accepted-requires : tie.Need-accepted-requires
-accepted-requires c κs = search needs
-
-same-length : tie.Need-same-length
-same-length c = search needs
-
-same-length-2 : tie.Need-same-length-2
-same-length-2 c = search needs
 
 returns : tie.Need-returns
 returns c =
@@ -42,15 +30,6 @@ times-all-requires c κs =
       s .pre .3,
     )
 
-same-length-3 : tie.Need-same-length-3
-same-length-3 c = search needs
-
-same-length-4 : tie.Need-same-length-4
-same-length-4 c = search needs
-
-same-length-5 : tie.Need-same-length-5
-same-length-5 c = search needs
-
 returns-2 : tie.Need-returns-2
 returns-2 c =
     let s = c .before .before .before .before .before .before .before .before .before .before .before .before in
@@ -64,14 +43,5 @@ returns-2 c =
 pub timed-spec : {M : Type 1} → statement M
 timed-spec =
     tie.close
-    (tie.spec
-    judge-sound-requires
-    accepted-requires
-    same-length
-    same-length-2
-    returns
-    times-all-requires
-    same-length-3
-    same-length-4
-    same-length-5
-    returns-2)
+    (tie.spec (λ c κs. search needs) (λ c κs. search needs) (λ c. search needs) (λ c. search needs) returns
+    times-all-requires (λ c. search needs) (λ c. search needs) (λ c. search needs) returns-2)

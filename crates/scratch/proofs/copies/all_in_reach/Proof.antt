@@ -9,7 +9,7 @@ use lib.IntN.{pos}
 use Rattle.rules.specs.Cells.{Within}
 use Rattle.rules.specs.Plan.{version1}
 use Rattle.cell.specs.Steps.{cell64}
-use Rattle.tables.proofs.Seen.{looked-yes, looked-no}
+use Rattle.lowering.proofs.Code.LooksAtCells.{looked-yes, looked-no}
 use Rattle.scratch.proofs.copies.all_in_reach.Statement.{statement}
 use Rattle.scratch.proofs.copies.all_in_reach.Tie as tie
 
@@ -18,18 +18,6 @@ Inv-loop t count i₀ i = (i ≤ count) × ((j : ℕ) → j < i → Within (vers
 
 abbrev μ-loop : tie.MeasureT-loop
 μ-loop t count i₀ i = count - i
-
-loop-holds : tie.Need-loop-holds Inv-loop μ-loop
-loop-holds c = (omega arith, below-none _)
-
-cell-at-requires : tie.Need-cell-at-requires Inv-loop μ-loop
-cell-at-requires c κs =
-    let s = c .before .before in
-    let loop-test = c .loop-test in
-    omega (arith, s .pre, loop-test .taken)
-
-in-reach-requires : tie.Need-in-reach-requires Inv-loop μ-loop
-in-reach-requires c κs = search needs
 
 returns : tie.Need-returns Inv-loop μ-loop
 returns c =
@@ -44,12 +32,6 @@ returns c =
       out = λ h. in-reach .ensures .fails (not-true (in-reach .result) (if1 .taken)) (rw (cell-at .ensures) h);
     })
 
-add-i : tie.Need-add-i Inv-loop μ-loop
-add-i c = search needs
-
-loop-less : tie.Need-loop-less Inv-loop μ-loop
-loop-less c = search needs
-
 loop-again : tie.Need-loop-again Inv-loop μ-loop
 loop-again c =
     let loop = c .before .before .before .before .loop in
@@ -58,22 +40,11 @@ loop-again c =
     let if1 = c .if1 in
     (omega arith, below-more _ (loop .i) (loop .inv .1) (rw (← cell-at .ensures) (in-reach .ensures .holds (not-false (in-reach .result) (if1 .left)))))
 
-returns-2 : tie.Need-returns-2 Inv-loop μ-loop
-returns-2 c =
-    let loop = c .before .loop in
-    looked-yes (λ j h. loop .inv .1 j (omega arith))
-
 pub all-in-reach-spec : {M : Type 1} → statement M
 all-in-reach-spec =
     tie.close
-    (tie.spec
-    Inv-loop
-    μ-loop
-    loop-holds
-    cell-at-requires
-    in-reach-requires
-    returns
-    add-i
-    loop-less
-    loop-again
-    returns-2)
+    (tie.spec Inv-loop μ-loop
+    (λ c. (omega arith, below-none _))
+    (λ c κs. omega (arith, c .before .before .pre, c .loop-test .taken))
+    (λ c κs. search needs) returns (λ c. search needs) (λ c. search needs) loop-again
+    (λ c. looked-yes (λ j h. c .before .loop .inv .1 j (omega arith))))

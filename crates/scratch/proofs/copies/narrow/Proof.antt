@@ -6,7 +6,7 @@ use mathlib.Core.Path.{_≡_, sym}
 use lib.ListN.{getD}
 use lib.IntN.{pos}
 use Rattle.cell.specs.Steps.{cell32, cell64}
-use Rattle.scratch.proofs.Copying.{Copying, copying-none, copying-more, all-narrowed}
+use Rattle.scratch.proofs.CellsCopied.{Copying, copying-none, copying-more, all-narrowed}
 use Rattle.scratch.proofs.copies.narrow.Statement.{statement}
 use Rattle.scratch.proofs.copies.narrow.Tie as tie
 
@@ -15,14 +15,6 @@ Inv-loop t table₀ count i₀ table i = Copying count (λ j v. cell64 (getD t j
 
 abbrev μ-loop : tie.MeasureT-loop
 μ-loop t table₀ count i₀ table i = count - i
-
-loop-holds : tie.Need-loop-holds Inv-loop μ-loop
-loop-holds c = copying-none
-
-cell-at-requires : tie.Need-cell-at-requires Inv-loop μ-loop
-cell-at-requires c κs =
-    let s = c .before .before .before in
-    omega (arith, s .pre .0)
 
 narrowed-requires : tie.Need-narrowed-requires Inv-loop μ-loop
 narrowed-requires c κs =
@@ -36,12 +28,6 @@ write-requires c κs =
     let loop = c .before .before .before .before .loop in
     omega (arith, loop .inv .kept .length-same, s .pre .1)
 
-add-i : tie.Need-add-i Inv-loop μ-loop
-add-i c = search needs
-
-loop-less : tie.Need-loop-less Inv-loop μ-loop
-loop-less c = search needs
-
 loop-again : tie.Need-loop-again Inv-loop μ-loop
 loop-again c =
     let s = c .before .before .before .before .before .before .before in
@@ -51,29 +37,12 @@ loop-again c =
     let write = c .before .write in
     copying-more (narrowed .result .v) (loop .inv) (omega arith) (s .pre .1) (rw (← cell-at .ensures) (sym (narrowed .ensures))) (write .ensures)
 
-same-length : tie.Need-same-length Inv-loop μ-loop
-same-length c =
-    let loop = c .before .loop in
-    loop .inv .kept .length-same
-
-returns : tie.Need-returns Inv-loop μ-loop
-returns c =
-    let s = c .before .before in
-    let loop = c .before .loop in
-    all-narrowed (s .args .t .now) (loop .inv) (omega arith)
-
 pub narrow-spec : {M : Type 1} → statement M
 narrow-spec =
     tie.close
-    (tie.spec
-    Inv-loop
-    μ-loop
-    loop-holds
-    cell-at-requires
-    narrowed-requires
-    write-requires
-    add-i
-    loop-less
-    loop-again
-    same-length
-    returns)
+    (tie.spec Inv-loop μ-loop
+    (λ c. copying-none)
+    (λ c κs. omega (arith, c .before .before .before .pre .0))
+    narrowed-requires write-requires (λ c. search needs) (λ c. search needs) loop-again
+    (λ c. c .before .loop .inv .kept .length-same)
+    (λ c. all-narrowed (c .before .before .args .t .now) (c .before .loop .inv) (omega arith)))

@@ -5,32 +5,11 @@ use native.Mathlib.Omega.{arith}
 use lib.ListN.{length}
 use borrow.Rule.Slice.PartMut.{take-put}
 use Rattle.cell.specs.Steps.{adding, cell64}
-use Rattle.tables.specs.Sweep.{lowerCell}
-use Rattle.scratch.proofs.Parts.{rest, rest-back}
+use Rattle.lowering.specs.Sweep.{lowerCell}
+use Rattle.scratch.proofs.ScratchParts.{rest, rest-back}
 use borrow.Author.Needs.{needs}
 use Rattle.scratch.proofs.opening.lower_open.Statement.{statement}
 use Rattle.scratch.proofs.opening.lower_open.Tie as tie
-
-mul-cells : tie.Need-mul-cells
-mul-cells c = search needs
-
-mul-lower-cell : tie.Need-mul-lower-cell
-mul-lower-cell c = search needs
-
-sub-lower-cell : tie.Need-sub-lower-cell
-sub-lower-cell c = search needs
-
-part-lower-cell-start : tie.Need-part-lower-cell-start
-part-lower-cell-start c = search needs
-
-part-lower-cell-end : tie.Need-part-lower-cell-end
-part-lower-cell-end c = search needs
-
-lower-cell-requires : tie.Need-lower-cell-requires
-lower-cell-requires c κs = search needs
-
-same-length : tie.Need-same-length
-same-length c = search needs
 
 returns : tie.Need-returns
 returns c =
@@ -47,12 +26,5 @@ returns c =
 pub lower-open-spec : {M : Type 1} → statement M
 lower-open-spec =
     tie.close
-    (tie.spec
-    mul-cells
-    mul-lower-cell
-    sub-lower-cell
-    part-lower-cell-start
-    part-lower-cell-end
-    lower-cell-requires
-    same-length
-    returns)
+    (tie.spec (λ c. search needs) (λ c. search needs) (λ c. search needs) (λ c. search needs) (λ c. search needs)
+    (λ c κs. search needs) (λ c. search needs) returns)

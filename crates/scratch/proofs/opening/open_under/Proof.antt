@@ -4,11 +4,11 @@ use mathlib.Core.Path.{ap, _∙_}
 use Prim.Native.Nat.{_-_}
 use native.Mathlib.Omega.{arith}
 use Rattle.cell.specs.Steps.{adding}
-use Rattle.tables.specs.Sweep.{openRow, openAll}
-use Rattle.tables.proofs.Steps.{open-row-lowers}
-use Rattle.wide.proofs.Start.{adding-coherent}
+use Rattle.lowering.specs.Sweep.{openRow, openAll}
+use Rattle.lowering.proofs.Theory.SweepSteps.{open-row-lowers}
+use Rattle.wide.proofs.AddStart.{adding-coherent}
 use Rattle.scratch.specs.Swept.{strictPart, openPart}
-use Rattle.scratch.proofs.Parts.{Opening, opening-none, opening-more, opening-all, opening-both}
+use Rattle.scratch.proofs.ScratchParts.{Opening, opening-none, opening-more, opening-all, opening-both}
 use Rattle.scratch.proofs.opening.open_under.Statement.{statement}
 use Rattle.scratch.proofs.opening.open_under.Tie as tie
 
@@ -18,22 +18,11 @@ Inv-loop t₀ n x₀ t x = Opening adding n n (openRow adding n (strictPart n t�
 abbrev μ-loop : tie.MeasureT-loop
 μ-loop t₀ n x₀ t x = n - x
 
-loop-holds : tie.Need-loop-holds Inv-loop μ-loop
-loop-holds c =
-    let s = c in
-    opening-none (s .pre .1)
-
 open-row-requires : tie.Need-open-row-requires Inv-loop μ-loop
 open-row-requires c κs =
     let s = c .before .before .before in
     let loop = c .before .before .loop in
     (omega arith, s .pre .0, opening-both (s .pre .1) (loop .inv))
-
-add-x : tie.Need-add-x Inv-loop μ-loop
-add-x c = search needs
-
-loop-less : tie.Need-loop-less Inv-loop μ-loop
-loop-less c = search needs
 
 loop-again : tie.Need-loop-again Inv-loop μ-loop
 loop-again c =
@@ -44,27 +33,12 @@ loop-again c =
     (open-row .kept .0) (open-row .ensures .0)
     (open-row .ensures .1 ∙ ap (λ u. openRow adding (s .args .n) u (loop .x) (openPart (s .args .n) (loop .t))) (loop .inv .strict-same))
 
-same-length : tie.Need-same-length Inv-loop μ-loop
-same-length c =
-    let loop = c .before .loop in
-    loop .inv .same-length
-
-returns : tie.Need-returns Inv-loop μ-loop
-unfolding openAll
-returns c =
-    let loop = c .before .loop in
-    (loop .inv .strict-same, opening-all (loop .inv) (omega arith))
-
 pub open-under-spec : {M : Type 1} → statement M
+unfolding openAll
 open-under-spec =
     tie.close
-    (tie.spec
-    Inv-loop
-    μ-loop
-    loop-holds
-    open-row-requires
-    add-x
-    loop-less
-    loop-again
-    same-length
-    returns)
+    (tie.spec Inv-loop μ-loop
+    (λ c. opening-none (c .pre .1))
+    open-row-requires (λ c. search needs) (λ c. search needs) loop-again
+    (λ c. c .before .loop .inv .same-length)
+    (λ c. (c .before .loop .inv .strict-same, opening-all (c .before .loop .inv) (omega arith))))

@@ -3,37 +3,17 @@ use Prim.Native.Nat.{_*_}
 use native.Mathlib.Omega.{arith}
 use Rattle.whole.proofs.Place.{square-le}
 use Rattle.cell.specs.Steps.{adding}
-use Rattle.tables.proofs.Seen.{sound-held, heights-most}
+use Rattle.lowering.proofs.Code.LooksAtCells.{sound-held, heights-most}
 use Rattle.scratch.specs.Swept.{strictPart, openPart}
-use Rattle.scratch.proofs.Parts.{half-room, front-length, rest}
+use Rattle.scratch.proofs.ScratchParts.{half-room, front-length, rest}
 use borrow.Author.Needs.{needs}
 use Rattle.scratch.proofs.settling.both_heights.Statement.{statement}
 use Rattle.scratch.proofs.settling.both_heights.Tie as tie
-
-mul-cells : tie.Need-mul-cells
-mul-cells c = search needs
 
 slice-aggregate-height-all : tie.Need-slice-aggregate-height-all
 slice-aggregate-height-all c =
     let s = c .before in
     front-length (s .args .n * s .args .n) (s .args .t .now) (half-room (s .pre .1))
-
-height-all-requires : tie.Need-height-all-requires
-height-all-requires c κs =
-    let s = c .before in
-    (omega (arith, square-le (s .pre .0)), sound-held (s .pre .1 .strict))
-
-mul-height-all : tie.Need-mul-height-all
-mul-height-all c = search needs
-
-sub-height-all : tie.Need-sub-height-all
-sub-height-all c = search needs
-
-part-height-all-start : tie.Need-part-height-all-start
-part-height-all-start c = search needs
-
-part-height-all-end : tie.Need-part-height-all-end
-part-height-all-end c = search needs
 
 height-all-requires-2 : tie.Need-height-all-requires-2
 height-all-requires-2 c κs =
@@ -66,14 +46,7 @@ returns c =
 pub both-heights-spec : {M : Type 1} → statement M
 both-heights-spec =
     tie.close
-    (tie.spec
-    mul-cells
-    slice-aggregate-height-all
-    height-all-requires
-    mul-height-all
-    sub-height-all
-    part-height-all-start
-    part-height-all-end
-    height-all-requires-2
-    add-result
+    (tie.spec (λ c. search needs) slice-aggregate-height-all
+    (λ c κs. (omega (arith, square-le (c .before .pre .0)), sound-held (c .before .pre .1 .strict)))
+    (λ c. search needs) (λ c. search needs) (λ c. search needs) (λ c. search needs) height-all-requires-2 add-result
     returns)

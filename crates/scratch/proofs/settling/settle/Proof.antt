@@ -2,8 +2,8 @@
 use borrow.Author.Tests.{not-true, not-false}
 use native.Mathlib.Omega.{arith}
 use Rattle.plan.specs.Layout.{linkAt}
-use Rattle.tables.proofs.Links.{few}
-use Rattle.scratch.proofs.Sweeps.{Sweeping, sweeping-none, sweeping-both, sweeping-length, sweeping-more, sweeping-falls, ended-no, ended-yes}
+use Rattle.lowering.proofs.Code.LinksAsRead.{few}
+use Rattle.scratch.proofs.AddSweeps.{Sweeping, sweeping-none, sweeping-both, sweeping-length, sweeping-more, sweeping-falls, ended-no, ended-yes}
 use Rattle.scratch.proofs.settling.settle.Statement.{statement}
 use Rattle.scratch.proofs.settling.settle.Tie as tie
 
@@ -12,22 +12,6 @@ Inv-loop file n m k t₀ last₀ t last = Sweeping n (linkAt file m) k t₀ t la
 
 abbrev μ-loop : tie.MeasureT-loop
 μ-loop file n m k t₀ last₀ t last = last
-
-both-heights-requires : tie.Need-both-heights-requires Inv-loop μ-loop
-both-heights-requires c κs =
-    let s = c .before .before in
-    (few (s .pre .0), s .pre .1)
-
-loop-holds : tie.Need-loop-holds Inv-loop μ-loop
-loop-holds c =
-    let s = c .before .before .before in
-    sweeping-none (s .pre .1) (c .both-heights .ensures)
-
-sweep-requires : tie.Need-sweep-requires Inv-loop μ-loop
-sweep-requires c κs =
-    let s = c .before .before .before .before .before in
-    let loop = c .before .loop in
-    (s .pre .0, loop .inv .both)
 
 both-fair-requires : tie.Need-both-fair-requires Inv-loop μ-loop
 both-fair-requires c κs =
@@ -95,17 +79,8 @@ loop-again c =
 pub settle-spec : {M : Type 1} → statement M
 settle-spec =
     tie.close
-    (tie.spec
-    Inv-loop
-    μ-loop
-    both-heights-requires
-    loop-holds
-    sweep-requires
-    both-fair-requires
-    same-length
-    returns
-    both-heights-requires-2
-    same-length-2
-    returns-2
-    loop-less
-    loop-again)
+    (tie.spec Inv-loop μ-loop
+    (λ c κs. (few (c .before .before .pre .0), c .before .before .pre .1))
+    (λ c. sweeping-none (c .before .before .before .pre .1) (c .both-heights .ensures))
+    (λ c κs. (c .before .before .before .before .before .pre .0, c .before .loop .inv .both))
+    both-fair-requires same-length returns both-heights-requires-2 same-length-2 returns-2 loop-less loop-again)

@@ -1,13 +1,10 @@
 -- `settling::sweep` meets its contract: the strict table, then the open one under it, then its own part. Assumes nothing.
 use mathlib.Core.Path.{_∙_}
-use Rattle.tables.proofs.Links.{few}
-use Rattle.scratch.proofs.Sweeps.{both-first, both-under, open-swept}
+use Rattle.lowering.proofs.Code.LinksAsRead.{few}
+use Rattle.scratch.proofs.AddSweeps.{both-first, both-under, open-swept}
 use borrow.Author.Needs.{needs}
 use Rattle.scratch.proofs.settling.sweep.Statement.{statement}
 use Rattle.scratch.proofs.settling.sweep.Tie as tie
-
-sweep-first-requires : tie.Need-sweep-first-requires
-sweep-first-requires c κs = search needs
 
 open-under-requires : tie.Need-open-under-requires
 open-under-requires c κs =
@@ -25,9 +22,6 @@ sweep-last-requires c κs =
           (open-under .kept .0) (open-under .ensures .0) (open-under .ensures .1),
     )
 
-same-length : tie.Need-same-length
-same-length c = search needs
-
 returns : tie.Need-returns
 returns c =
     let s = c .before .before .before .before .before .before .before .before .before .before in
@@ -42,4 +36,4 @@ returns c =
 pub sweep-spec : {M : Type 1} → statement M
 sweep-spec =
     tie.close
-    (tie.spec sweep-first-requires open-under-requires sweep-last-requires same-length returns)
+    (tie.spec (λ c κs. search needs) open-under-requires sweep-last-requires (λ c. search needs) returns)

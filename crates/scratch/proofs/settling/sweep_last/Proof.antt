@@ -5,34 +5,16 @@ use lib.ListN.{length}
 use borrow.Rule.Slice.PartMut.{take-put}
 use Rattle.plan.specs.Layout.{linkAt}
 use Rattle.cell.specs.Steps.{adding}
-use Rattle.tables.specs.Sweep.{caseAll, joinAll}
-use Rattle.scratch.proofs.Parts.{half-room, rest, rest-back}
+use Rattle.lowering.specs.Sweep.{caseAll, joinAll}
+use Rattle.scratch.proofs.ScratchParts.{half-room, rest, rest-back}
 use borrow.Author.Needs.{needs}
 use Rattle.scratch.proofs.settling.sweep_last.Statement.{statement}
 use Rattle.scratch.proofs.settling.sweep_last.Tie as tie
-
-mul-cells : tie.Need-mul-cells
-mul-cells c = search needs
-
-mul-join-cases : tie.Need-mul-join-cases
-mul-join-cases c = search needs
-
-sub-join-cases : tie.Need-sub-join-cases
-sub-join-cases c = search needs
-
-part-join-cases-start : tie.Need-part-join-cases-start
-part-join-cases-start c = search needs
-
-part-join-cases-end : tie.Need-part-join-cases-end
-part-join-cases-end c = search needs
 
 join-cases-requires : tie.Need-join-cases-requires
 join-cases-requires c κs =
     let s = c .before .before in
     (s .pre .0, rw (rest (s .args .n * s .args .n) (s .args .t .now)) (s .pre .1 .weak))
-
-same-length : tie.Need-same-length
-same-length c = search needs
 
 returns : tie.Need-returns
 returns c =
@@ -49,12 +31,5 @@ returns c =
 pub sweep-last-spec : {M : Type 1} → statement M
 sweep-last-spec =
     tie.close
-    (tie.spec
-    mul-cells
-    mul-join-cases
-    sub-join-cases
-    part-join-cases-start
-    part-join-cases-end
-    join-cases-requires
-    same-length
-    returns)
+    (tie.spec (λ c. search needs) (λ c. search needs) (λ c. search needs) (λ c. search needs) (λ c. search needs)
+    join-cases-requires (λ c. search needs) returns)

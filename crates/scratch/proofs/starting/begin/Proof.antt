@@ -1,28 +1,16 @@
 -- `starting::begin` meets its contract: the cells, then the limit, then the first open table. Assumes nothing.
 use Rattle.plan.specs.Values.{limitOf}
 use native.Mathlib.Omega.{arith}
-use Rattle.scratch.proofs.Begins.{widened-sound, begun-of}
+use Rattle.scratch.proofs.AddBegins.{widened-sound, begun-of}
 use borrow.Author.Needs.{needs}
 use Rattle.scratch.proofs.starting.begin.Statement.{statement}
 use Rattle.scratch.proofs.starting.begin.Tie as tie
-
-mul-cells : tie.Need-mul-cells
-mul-cells c = search needs
-
-widen-requires : tie.Need-widen-requires
-widen-requires c κs = search needs
 
 limit-part-requires : tie.Need-limit-part-requires
 limit-part-requires c κs =
     let s = c .before .before .before .before in
     let widen = c .before .before .widen in
     (s .pre .0, s .pre .1, omega (arith, s .pre .3, widen .kept .1 .0), widened-sound (s .args .n) (s .pre .3) (widen .ensures) (s .pre .4))
-
-open-part-requires : tie.Need-open-part-requires
-open-part-requires c κs = search needs
-
-same-length : tie.Need-same-length
-same-length c = search needs
 
 returns : tie.Need-returns
 returns c =
@@ -36,4 +24,5 @@ returns c =
 pub begin-spec : {M : Type 1} → statement M
 begin-spec =
     tie.close
-    (tie.spec mul-cells widen-requires limit-part-requires open-part-requires same-length returns)
+    (tie.spec (λ c. search needs) (λ c κs. search needs) limit-part-requires (λ c κs. search needs)
+    (λ c. search needs) returns)

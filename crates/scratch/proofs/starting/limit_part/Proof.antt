@@ -3,27 +3,15 @@ use mathlib.Core.Path.{_∙_}
 use Prim.Native.Nat.{_*_, _≤_}
 use native.Mathlib.Omega.{arith}
 use lib.ListN.{length}
-use Rattle.scratch.proofs.Parts.{front-length, front-back, front-rest}
+use Rattle.scratch.proofs.ScratchParts.{front-length, front-back, front-rest}
 use borrow.Author.Needs.{needs}
 use Rattle.scratch.proofs.starting.limit_part.Statement.{statement}
 use Rattle.scratch.proofs.starting.limit_part.Tie as tie
-
-mul-cells : tie.Need-mul-cells
-mul-cells c = search needs
-
-slice-relend-prefix-limit-cell : tie.Need-slice-relend-prefix-limit-cell
-slice-relend-prefix-limit-cell c = search needs
 
 slice-aggregate-limit-cell : tie.Need-slice-aggregate-limit-cell
 slice-aggregate-limit-cell c =
     let s = c .before in
     front-length (s .args .n * s .args .n) (s .args .t .now) (omega (arith, s .pre .2))
-
-limit-cell-requires : tie.Need-limit-cell-requires
-limit-cell-requires c κs = search needs
-
-same-length : tie.Need-same-length
-same-length c = search needs
 
 returns : tie.Need-returns
 returns c =
@@ -38,10 +26,5 @@ returns c =
 pub limit-part-spec : {M : Type 1} → statement M
 limit-part-spec =
     tie.close
-    (tie.spec
-    mul-cells
-    slice-relend-prefix-limit-cell
-    slice-aggregate-limit-cell
-    limit-cell-requires
-    same-length
-    returns)
+    (tie.spec (λ c. search needs) (λ c. search needs) slice-aggregate-limit-cell (λ c κs. search needs)
+    (λ c. search needs) returns)

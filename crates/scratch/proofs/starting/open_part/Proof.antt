@@ -5,32 +5,11 @@ use native.Mathlib.Omega.{arith}
 use lib.ListN.{length}
 use borrow.Rule.Slice.PartMut.{take-put}
 use Rattle.cell.specs.Steps.{adding}
-use Rattle.tables.specs.Sweep.{firstOpen}
-use Rattle.scratch.proofs.Parts.{rest, rest-back}
+use Rattle.lowering.specs.Sweep.{firstOpen}
+use Rattle.scratch.proofs.ScratchParts.{rest, rest-back}
 use borrow.Author.Needs.{needs}
 use Rattle.scratch.proofs.starting.open_part.Statement.{statement}
 use Rattle.scratch.proofs.starting.open_part.Tie as tie
-
-mul-cells : tie.Need-mul-cells
-mul-cells c = search needs
-
-mul-first-open : tie.Need-mul-first-open
-mul-first-open c = search needs
-
-sub-first-open : tie.Need-sub-first-open
-sub-first-open c = search needs
-
-part-first-open-start : tie.Need-part-first-open-start
-part-first-open-start c = search needs
-
-part-first-open-end : tie.Need-part-first-open-end
-part-first-open-end c = search needs
-
-first-open-requires : tie.Need-first-open-requires
-first-open-requires c κs = search needs
-
-same-length : tie.Need-same-length
-same-length c = search needs
 
 returns : tie.Need-returns
 returns c =
@@ -46,12 +25,5 @@ returns c =
 pub open-part-spec : {M : Type 1} → statement M
 open-part-spec =
     tie.close
-    (tie.spec
-    mul-cells
-    mul-first-open
-    sub-first-open
-    part-first-open-start
-    part-first-open-end
-    first-open-requires
-    same-length
-    returns)
+    (tie.spec (λ c. search needs) (λ c. search needs) (λ c. search needs) (λ c. search needs) (λ c. search needs)
+    (λ c κs. search needs) (λ c. search needs) returns)

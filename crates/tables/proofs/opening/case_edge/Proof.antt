@@ -2,26 +2,11 @@
 use borrow.Author.Needs.{needs}
 use native.Mathlib.Omega.{arith}
 use Rattle.rules.specs.Plan.{version1}
-use Rattle.tables.specs.Spread.{caseEdge}
-use Rattle.tables.proofs.Edges.{edge-by}
-use Rattle.tables.proofs.Starts.{span-cell}
+use Rattle.lowering.specs.Spread.{caseEdge}
+use Rattle.lowering.proofs.Code.SpreadAsRead.{edge-by}
+use Rattle.lowering.proofs.Code.FirstAsRead.{span-cell}
 use Rattle.tables.proofs.opening.case_edge.Statement.{statement}
 use Rattle.tables.proofs.opening.case_edge.Tie as tie
-
-cast-from : tie.Need-cast-from
-cast-from c = search needs
-
-cast-to : tie.Need-cast-to
-cast-to c = search needs
-
-of-requires : tie.Need-of-requires
-of-requires c κs = search needs
-
-new-edge-requires : tie.Need-new-edge-requires
-new-edge-requires c κs = search needs
-
-same-length : tie.Need-same-length
-same-length c = search needs
 
 returns : tie.Need-returns
 unfolding caseEdge
@@ -34,4 +19,6 @@ returns c =
 
 pub case-edge-spec : {M : Type 1} → statement M
 case-edge-spec =
-    tie.close (tie.spec cast-from cast-to of-requires new-edge-requires same-length returns)
+    tie.close
+    (tie.spec (λ c. search needs) (λ c. search needs) (λ c κs. search needs) (λ c κs. search needs)
+    (λ c. search needs) returns)

@@ -5,10 +5,10 @@ use native.Mathlib.Omega.{arith}
 use Rattle.rules.proofs.Demands.{version1-coherent}
 use Rattle.rules.specs.Plan.{version1}
 use Rattle.plan.specs.Layout.{linkAt}
-use Rattle.tables.specs.Spread.{caseEdge, caseEdges}
-use Rattle.tables.proofs.Turns.{Turns, turns-none, turns-more, turns-all}
-use Rattle.tables.proofs.Spreads.{case-edge-lowers}
-use Rattle.tables.proofs.Links.{few, link-read, link-points, at-read}
+use Rattle.lowering.specs.Spread.{caseEdge, caseEdges}
+use Rattle.lowering.proofs.Code.LoopTurns.{Turns, turns-none, turns-more, turns-all}
+use Rattle.lowering.proofs.Theory.SpreadSteps.{case-edge-lowers}
+use Rattle.lowering.proofs.Code.LinksAsRead.{few, link-read, link-points, at-read}
 use Rattle.tables.proofs.opening.case_edges.Statement.{statement}
 use Rattle.tables.proofs.opening.case_edges.Tie as tie
 
@@ -18,26 +18,12 @@ Inv-loop file n m k t₀ i₀ t i = Turns version1 n k (λ i. caseEdge version1 
 abbrev μ-loop : tie.MeasureT-loop
 μ-loop file n m k t₀ i₀ t i = k - i
 
-loop-holds : tie.Need-loop-holds Inv-loop μ-loop
-loop-holds c =
-    let s = c .before in
-    turns-none (s .pre .1)
-
-link-of-requires : tie.Need-link-of-requires Inv-loop μ-loop
-link-of-requires c κs = search needs
-
 case-edge-requires : tie.Need-case-edge-requires Inv-loop μ-loop
 case-edge-requires c κs =
     let s = c .before .before .before .before .before in
     let loop = c .before .before .before .loop in
     let link-of = c .before .link-of in
     (few (s .pre .0), link-read (s .pre .0) (loop .i) (omega arith) (link-of .ensures), loop .inv .lowered .sound)
-
-add-i : tie.Need-add-i Inv-loop μ-loop
-add-i c = search needs
-
-loop-less : tie.Need-loop-less Inv-loop μ-loop
-loop-less c = search needs
 
 loop-again : tie.Need-loop-again Inv-loop μ-loop
 loop-again c =
@@ -48,26 +34,11 @@ loop-again c =
     turns-more (case-edge-lowers version1 version1-coherent (s .args .n) (linkAt (s .args .file .now) (s .args .m)) (s .args .k) (link-points (s .pre .0))) (loop .inv) (omega arith)
     (at-read (λ a. caseEdge version1 (s .args .n) a (loop .t)) (link-of .ensures) (case-edge .ensures))
 
-same-length : tie.Need-same-length Inv-loop μ-loop
-same-length c = search needs
-
-returns : tie.Need-returns Inv-loop μ-loop
-unfolding caseEdges
-returns c =
-    let loop = c .before .loop in
-    turns-all (loop .inv) (omega arith)
-
 pub case-edges-spec : {M : Type 1} → statement M
+unfolding caseEdges
 case-edges-spec =
     tie.close
-    (tie.spec
-    Inv-loop
-    μ-loop
-    loop-holds
-    link-of-requires
-    case-edge-requires
-    add-i
-    loop-less
-    loop-again
-    same-length
-    returns)
+    (tie.spec Inv-loop μ-loop
+    (λ c. turns-none (c .before .pre .1))
+    (λ c κs. search needs) case-edge-requires (λ c. search needs) (λ c. search needs) loop-again (λ c. search needs)
+    (λ c. turns-all (c .before .loop .inv) (omega arith)))

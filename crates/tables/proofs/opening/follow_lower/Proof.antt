@@ -2,24 +2,9 @@
 use borrow.Author.Needs.{needs}
 use Rattle.rules.specs.Plan.{version1}
 use Rattle.plan.specs.Values.{linkOf}
-use Rattle.tables.proofs.Links.{follow-lower-is}
+use Rattle.lowering.proofs.Code.LinksAsRead.{follow-lower-is}
 use Rattle.tables.proofs.opening.follow_lower.Statement.{statement}
 use Rattle.tables.proofs.opening.follow_lower.Tie as tie
-
-cast-from : tie.Need-cast-from
-cast-from c = search needs
-
-cast-to : tie.Need-cast-to
-cast-to c = search needs
-
-get-requires : tie.Need-get-requires
-get-requires c κs = search needs
-
-new-edge-requires : tie.Need-new-edge-requires
-new-edge-requires c κs = search needs
-
-same-length : tie.Need-same-length
-same-length c = search needs
 
 returns : tie.Need-returns
 returns c =
@@ -31,4 +16,6 @@ returns c =
 
 pub follow-lower-spec : {M : Type 1} → statement M
 follow-lower-spec =
-    tie.close (tie.spec cast-from cast-to get-requires new-edge-requires same-length returns)
+    tie.close
+    (tie.spec (λ c. search needs) (λ c. search needs) (λ c κs. search needs) (λ c κs. search needs)
+    (λ c. search needs) returns)

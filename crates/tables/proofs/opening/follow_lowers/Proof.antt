@@ -5,10 +5,10 @@ use native.Mathlib.Omega.{arith}
 use Rattle.rules.proofs.Demands.{version1-coherent}
 use Rattle.rules.specs.Plan.{version1}
 use Rattle.plan.specs.Layout.{linkAt}
-use Rattle.tables.specs.Spread.{followLower, followLowers}
-use Rattle.tables.proofs.Turns.{Turns, turns-none, turns-more, turns-all}
-use Rattle.tables.proofs.Spreads.{follow-lower-lowers}
-use Rattle.tables.proofs.Links.{few, link-read, link-points, at-both}
+use Rattle.lowering.specs.Spread.{followLower, followLowers}
+use Rattle.lowering.proofs.Code.LoopTurns.{Turns, turns-none, turns-more, turns-all}
+use Rattle.lowering.proofs.Theory.SpreadSteps.{follow-lower-lowers}
+use Rattle.lowering.proofs.Code.LinksAsRead.{few, link-read, link-points, at-both}
 use Rattle.tables.proofs.opening.follow_lowers.Statement.{statement}
 use Rattle.tables.proofs.opening.follow_lowers.Tie as tie
 
@@ -18,17 +18,6 @@ Inv-loop file n m k strict t₀ i a j₀ t j = Turns version1 n k (λ j. followL
 abbrev μ-loop : tie.MeasureT-loop
 μ-loop file n m k strict t₀ i a j₀ t j = k - j
 
-link-of-requires : tie.Need-link-of-requires Inv-loop μ-loop
-link-of-requires c κs = search needs
-
-loop-holds : tie.Need-loop-holds Inv-loop μ-loop
-loop-holds c =
-    let s = c .before .before in
-    turns-none (s .pre .3)
-
-link-of-requires-2 : tie.Need-link-of-requires-2 Inv-loop μ-loop
-link-of-requires-2 c κs = search needs
-
 follow-lower-requires : tie.Need-follow-lower-requires Inv-loop μ-loop
 follow-lower-requires c κs =
     let s = c .before .before .before .before .before .before in
@@ -36,12 +25,6 @@ follow-lower-requires c κs =
     let loop = c .before .before .before .loop in
     let link-of2 = c .before .link-of2 in
     (few (s .pre .1), s .pre .2, link-read (s .pre .1) (s .args .i) (s .pre .0) (link-of .ensures), link-read (s .pre .1) (loop .j) (omega arith) (link-of2 .ensures), loop .inv .lowered .sound)
-
-add-j : tie.Need-add-j Inv-loop μ-loop
-add-j c = search needs
-
-loop-less : tie.Need-loop-less Inv-loop μ-loop
-loop-less c = search needs
 
 loop-again : tie.Need-loop-again Inv-loop μ-loop
 loop-again c =
@@ -54,27 +37,13 @@ loop-again c =
     (follow-lower-lowers version1 version1-coherent (s .args .n) (linkAt (s .args .file .now) (s .args .m)) (s .args .k) (link-points (s .pre .1)) (s .args .strict .now) (s .args .i) (s .pre .0)) (loop .inv) (omega arith)
     (at-both (λ a b. followLower version1 (s .args .n) (s .args .strict .now) a b (loop .t)) (link-of .ensures) (link-of2 .ensures) (follow-lower .ensures))
 
-same-length : tie.Need-same-length Inv-loop μ-loop
-same-length c = search needs
-
-returns : tie.Need-returns Inv-loop μ-loop
-unfolding followLowers
-returns c =
-    let loop = c .before .loop in
-    turns-all (loop .inv) (omega arith)
-
 pub follow-lowers-spec : {M : Type 1} → statement M
+unfolding followLowers
 follow-lowers-spec =
     tie.close
-    (tie.spec
-    Inv-loop
-    μ-loop
-    link-of-requires
-    loop-holds
-    link-of-requires-2
-    follow-lower-requires
-    add-j
-    loop-less
-    loop-again
-    same-length
-    returns)
+    (tie.spec Inv-loop μ-loop
+    (λ c κs. search needs)
+    (λ c. turns-none (c .before .before .pre .3))
+    (λ c κs. search needs) follow-lower-requires (λ c. search needs) (λ c. search needs) loop-again
+    (λ c. search needs)
+    (λ c. turns-all (c .before .loop .inv) (omega arith)))

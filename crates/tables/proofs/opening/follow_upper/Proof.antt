@@ -2,21 +2,9 @@
 use borrow.Author.Needs.{needs}
 use Rattle.rules.specs.Plan.{version1}
 use Rattle.plan.specs.Values.{linkOf}
-use Rattle.tables.proofs.Links.{follow-upper-is}
+use Rattle.lowering.proofs.Code.LinksAsRead.{follow-upper-is}
 use Rattle.tables.proofs.opening.follow_upper.Statement.{statement}
 use Rattle.tables.proofs.opening.follow_upper.Tie as tie
-
-cast-to : tie.Need-cast-to
-cast-to c = search needs
-
-get-requires : tie.Need-get-requires
-get-requires c κs = search needs
-
-new-edge-requires : tie.Need-new-edge-requires
-new-edge-requires c κs = search needs
-
-same-length : tie.Need-same-length
-same-length c = search needs
 
 returns : tie.Need-returns
 returns c =
@@ -27,4 +15,6 @@ returns c =
     (get .result .v) (get .ensures) (new-edge .ensures)
 
 pub follow-upper-spec : {M : Type 1} → statement M
-follow-upper-spec = tie.close (tie.spec cast-to get-requires new-edge-requires same-length returns)
+follow-upper-spec =
+    tie.close
+    (tie.spec (λ c. search needs) (λ c κs. search needs) (λ c κs. search needs) (λ c. search needs) returns)

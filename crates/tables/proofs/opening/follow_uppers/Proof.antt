@@ -5,9 +5,9 @@ use native.Mathlib.Omega.{arith}
 use Rattle.rules.proofs.Demands.{version1-coherent}
 use Rattle.rules.specs.Plan.{version1}
 use Rattle.plan.specs.Values.{linkOf}
-use Rattle.tables.specs.Spread.{followUpper, followUppers}
-use Rattle.tables.proofs.Turns.{Turns, turns-none, turns-more, turns-all}
-use Rattle.tables.proofs.Spreads.{follow-upper-lowers}
+use Rattle.lowering.specs.Spread.{followUpper, followUppers}
+use Rattle.lowering.proofs.Code.LoopTurns.{Turns, turns-none, turns-more, turns-all}
+use Rattle.lowering.proofs.Theory.SpreadSteps.{follow-upper-lowers}
 use Rattle.tables.proofs.opening.follow_uppers.Statement.{statement}
 use Rattle.tables.proofs.opening.follow_uppers.Tie as tie
 
@@ -17,22 +17,11 @@ Inv-loop strict t₀ n a x₀ t x = Turns version1 n n (followUpper version1 n s
 abbrev μ-loop : tie.MeasureT-loop
 μ-loop strict t₀ n a x₀ t x = n - x
 
-loop-holds : tie.Need-loop-holds Inv-loop μ-loop
-loop-holds c =
-    let s = c in
-    turns-none (s .pre .3)
-
 follow-upper-requires : tie.Need-follow-upper-requires Inv-loop μ-loop
 follow-upper-requires c κs =
     let s = c .before .before .before in
     let loop = c .before .before .loop in
     (omega arith, s .pre .0, s .pre .1, s .pre .2, loop .inv .lowered .sound)
-
-add-x : tie.Need-add-x Inv-loop μ-loop
-add-x c = search needs
-
-loop-less : tie.Need-loop-less Inv-loop μ-loop
-loop-less c = search needs
 
 loop-again : tie.Need-loop-again Inv-loop μ-loop
 loop-again c =
@@ -41,25 +30,11 @@ loop-again c =
     let follow-upper = c .before .follow-upper in
     turns-more (follow-upper-lowers version1 version1-coherent (s .args .n) (s .args .strict .now) (linkOf (s .args .a))) (loop .inv) (omega arith) (follow-upper .ensures)
 
-same-length : tie.Need-same-length Inv-loop μ-loop
-same-length c = search needs
-
-returns : tie.Need-returns Inv-loop μ-loop
-unfolding followUppers
-returns c =
-    let loop = c .before .loop in
-    turns-all (loop .inv) (omega arith)
-
 pub follow-uppers-spec : {M : Type 1} → statement M
+unfolding followUppers
 follow-uppers-spec =
     tie.close
-    (tie.spec
-    Inv-loop
-    μ-loop
-    loop-holds
-    follow-upper-requires
-    add-x
-    loop-less
-    loop-again
-    same-length
-    returns)
+    (tie.spec Inv-loop μ-loop
+    (λ c. turns-none (c .pre .3))
+    follow-upper-requires (λ c. search needs) (λ c. search needs) loop-again (λ c. search needs)
+    (λ c. turns-all (c .before .loop .inv) (omega arith)))

@@ -5,10 +5,10 @@ use native.Mathlib.Omega.{arith}
 use Rattle.rules.proofs.Demands.{version1-coherent}
 use Rattle.rules.specs.Plan.{version1}
 use Rattle.plan.specs.Layout.{linkAt}
-use Rattle.tables.specs.Spread.{followLink, openRound}
-use Rattle.tables.proofs.Turns.{Turns, turns-none, turns-more, turns-all}
-use Rattle.tables.proofs.Spreads.{follow-link-lowers}
-use Rattle.tables.proofs.Links.{link-points}
+use Rattle.lowering.specs.Spread.{followLink, openRound}
+use Rattle.lowering.proofs.Code.LoopTurns.{Turns, turns-none, turns-more, turns-all}
+use Rattle.lowering.proofs.Theory.SpreadSteps.{follow-link-lowers}
+use Rattle.lowering.proofs.Code.LinksAsRead.{link-points}
 use Rattle.tables.proofs.opening.open_round.Statement.{statement}
 use Rattle.tables.proofs.opening.open_round.Tie as tie
 
@@ -18,22 +18,11 @@ Inv-loop file n m k strict t₀ i₀ t i = Turns version1 n k (λ i. followLink 
 abbrev μ-loop : tie.MeasureT-loop
 μ-loop file n m k strict t₀ i₀ t i = k - i
 
-loop-holds : tie.Need-loop-holds Inv-loop μ-loop
-loop-holds c =
-    let s = c .before in
-    turns-none (s .pre .2)
-
 follow-link-requires : tie.Need-follow-link-requires Inv-loop μ-loop
 follow-link-requires c κs =
     let s = c .before .before .before .before in
     let loop = c .before .before .loop in
     (omega arith, s .pre .0, s .pre .1, loop .inv .lowered .sound)
-
-add-i : tie.Need-add-i Inv-loop μ-loop
-add-i c = search needs
-
-loop-less : tie.Need-loop-less Inv-loop μ-loop
-loop-less c = search needs
 
 loop-again : tie.Need-loop-again Inv-loop μ-loop
 loop-again c =
@@ -42,25 +31,11 @@ loop-again c =
     let follow-link = c .before .follow-link in
     turns-more (follow-link-lowers version1 version1-coherent (s .args .n) (linkAt (s .args .file .now) (s .args .m)) (s .args .k) (link-points (s .pre .0)) (s .args .strict .now)) (loop .inv) (omega arith) (follow-link .ensures)
 
-same-length : tie.Need-same-length Inv-loop μ-loop
-same-length c = search needs
-
-returns : tie.Need-returns Inv-loop μ-loop
-unfolding openRound
-returns c =
-    let loop = c .before .loop in
-    turns-all (loop .inv) (omega arith)
-
 pub open-round-spec : {M : Type 1} → statement M
+unfolding openRound
 open-round-spec =
     tie.close
-    (tie.spec
-    Inv-loop
-    μ-loop
-    loop-holds
-    follow-link-requires
-    add-i
-    loop-less
-    loop-again
-    same-length
-    returns)
+    (tie.spec Inv-loop μ-loop
+    (λ c. turns-none (c .before .pre .2))
+    follow-link-requires (λ c. search needs) (λ c. search needs) loop-again (λ c. search needs)
+    (λ c. turns-all (c .before .loop .inv) (omega arith)))

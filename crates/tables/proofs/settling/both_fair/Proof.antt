@@ -2,21 +2,9 @@
 use borrow.Author.Needs.{needs}
 use borrow.Author.Tests.{not-true, not-false}
 use mathlib.Core.Logic.{inl}
-use Rattle.tables.proofs.Seen.{looked-no, looked-also}
+use Rattle.lowering.proofs.Code.LooksAtCells.{looked-no, looked-also}
 use Rattle.tables.proofs.settling.both_fair.Statement.{statement}
 use Rattle.tables.proofs.settling.both_fair.Tie as tie
-
-fair-requires : tie.Need-fair-requires
-fair-requires c κs = search needs
-
-returns : tie.Need-returns
-returns c =
-    let fair = c .before .fair in
-    let if1 = c .if1 in
-    looked-no (inl (fair .ensures .fails (not-true (fair .result) (if1 .taken))))
-
-fair-requires-2 : tie.Need-fair-requires-2
-fair-requires-2 c κs = search needs
 
 returns-2 : tie.Need-returns-2
 returns-2 c =
@@ -28,8 +16,6 @@ returns-2 c =
 pub both-fair-spec : {M : Type 1} → statement M
 both-fair-spec =
     tie.close
-    (tie.spec
-    fair-requires
-    returns
-    fair-requires-2
-    returns-2)
+    (tie.spec (λ c κs. search needs)
+    (λ c. looked-no (inl (c .before .fair .ensures .fails (not-true (c .before .fair .result) (c .if1 .taken)))))
+    (λ c κs. search needs) returns-2)

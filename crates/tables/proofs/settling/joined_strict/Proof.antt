@@ -2,23 +2,17 @@
 use borrow.Author.Needs.{needs}
 use mathlib.Core.Path.{ap, _∙_}
 use Rattle.rules.specs.Plan.{version1}
-use Rattle.tables.specs.Sweep.{joinAll}
-use Rattle.tables.proofs.Links.{few}
-use Rattle.tables.proofs.Sounds.{sound-first}
+use Rattle.lowering.specs.Sweep.{joinAll}
+use Rattle.lowering.proofs.Code.LinksAsRead.{few}
+use Rattle.lowering.proofs.Code.StillStored.{sound-first}
 use Rattle.tables.proofs.settling.joined_strict.Statement.{statement}
 use Rattle.tables.proofs.settling.joined_strict.Tie as tie
-
-first-strict-requires : tie.Need-first-strict-requires
-first-strict-requires c κs = search needs
 
 join-all-requires : tie.Need-join-all-requires
 join-all-requires c κs =
     let s = c .before .before .before .before .before in
     let first-strict = c .before .before .first-strict in
     (few (s .pre .0), sound-first (s .pre .0) (s .args .t .now) (s .pre .1) (first-strict .ensures))
-
-same-length : tie.Need-same-length
-same-length c = search needs
 
 returns : tie.Need-returns
 returns c =
@@ -28,5 +22,4 @@ returns c =
     join-all .ensures ∙ ap (joinAll version1 (s .args .n)) (first-strict .ensures)
 
 pub joined-strict-spec : {M : Type 1} → statement M
-joined-strict-spec =
-    tie.close (tie.spec first-strict-requires join-all-requires same-length returns)
+joined-strict-spec = tie.close (tie.spec (λ c κs. search needs) join-all-requires (λ c. search needs) returns)

@@ -5,10 +5,10 @@ use borrow.Author.Tests.{not-true, not-false}
 use Prim.Native.Nat.{_*_}
 use native.Mathlib.Omega.{arith}
 use Rattle.rules.specs.Plan.{version1}
-use Rattle.tables.specs.Sweep.{heights}
-use Rattle.tables.proofs.Links.{few}
-use Rattle.tables.proofs.Seen.{looked-yes, looked-no}
-use Rattle.tables.proofs.Standing.{Standing, standing-here, standing-after, standing-strict, standing-open, first-sound, standing-first, round-sound, round-falls, standing-on, standing-ends, standing-unfair}
+use Rattle.lowering.specs.Sweep.{heights}
+use Rattle.lowering.proofs.Code.LinksAsRead.{few}
+use Rattle.lowering.proofs.Code.LooksAtCells.{looked-yes, looked-no}
+use Rattle.tables.proofs.SettleLoop.{Standing, standing-here, standing-after, standing-strict, standing-open, first-sound, standing-first, round-sound, round-falls, standing-on, standing-ends, standing-unfair}
 use Rattle.tables.proofs.settling.settle.Statement.{statement}
 use Rattle.tables.proofs.settling.settle.Tie as tie
 
@@ -18,11 +18,6 @@ Inv-loop file n m k strict₀ open₀ last₀ strict «open» last =
 
 abbrev μ-loop : tie.MeasureT-loop
 μ-loop file n m k strict₀ open₀ last₀ strict «open» last = last
-
-joined-strict-requires : tie.Need-joined-strict-requires Inv-loop μ-loop
-joined-strict-requires c κs =
-    let s = c .before .before in
-    (s .pre .0, s .pre .1)
 
 opened-requires : tie.Need-opened-requires Inv-loop μ-loop
 opened-requires c κs =
@@ -174,22 +169,8 @@ loop-again c =
 pub settle-spec : {M : Type 1} → statement M
 settle-spec =
     tie.close
-    (tie.spec
-    Inv-loop
-    μ-loop
-    joined-strict-requires
-    opened-requires
-    strict-height-requires
-    loop-holds
-    both-fair-requires
-    same-length
-    same-length-2
-    returns
-    strict-round-requires
-    strict-height-requires-2
-    same-length-3
-    same-length-4
-    returns-2
-    open-round-requires
-    loop-less
+    (tie.spec Inv-loop μ-loop
+    (λ c κs. (c .before .before .pre .0, c .before .before .pre .1))
+    opened-requires strict-height-requires loop-holds both-fair-requires same-length same-length-2 returns
+    strict-round-requires strict-height-requires-2 same-length-3 same-length-4 returns-2 open-round-requires loop-less
     loop-again)

@@ -3,22 +3,16 @@ use borrow.Author.Needs.{needs}
 use mathlib.Core.Path.{ap, _∙_}
 use Rattle.rules.specs.Plan.{version1}
 use Rattle.plan.specs.Layout.{linkAt}
-use Rattle.tables.specs.Spread.{upperRound, strictRound}
-use Rattle.tables.proofs.Sounds.{sound-lower-round}
+use Rattle.lowering.specs.Spread.{upperRound, strictRound}
+use Rattle.lowering.proofs.Code.StillStored.{sound-lower-round}
 use Rattle.tables.proofs.settling.strict_round.Statement.{statement}
 use Rattle.tables.proofs.settling.strict_round.Tie as tie
-
-lower-round-requires : tie.Need-lower-round-requires
-lower-round-requires c κs = search needs
 
 upper-round-requires : tie.Need-upper-round-requires
 upper-round-requires c κs =
     let s = c .before .before .before .before .before in
     let lower-round = c .before .before .lower-round in
     (s .pre .0, sound-lower-round (s .pre .0) (s .pre .1) (lower-round .ensures))
-
-same-length : tie.Need-same-length
-same-length c = search needs
 
 returns : tie.Need-returns
 unfolding strictRound
@@ -29,5 +23,4 @@ returns c =
     upper-round .ensures ∙ ap (upperRound version1 (s .args .n) (linkAt (s .args .file .now) (s .args .m)) (s .args .k)) (lower-round .ensures)
 
 pub strict-round-spec : {M : Type 1} → statement M
-strict-round-spec =
-    tie.close (tie.spec lower-round-requires upper-round-requires same-length returns)
+strict-round-spec = tie.close (tie.spec (λ c κs. search needs) upper-round-requires (λ c. search needs) returns)

@@ -2,12 +2,12 @@
 use mathlib.Core.Path.{sym, _∙_}
 use Prim.Native.Nat.{_-_}
 use native.Mathlib.Omega.{arith}
-use Rattle.wide.proofs.Start.{adding-coherent}
+use Rattle.wide.proofs.AddStart.{adding-coherent}
 use Rattle.cell.specs.Steps.{adding, cell64}
-use Rattle.cell.proofs.Laws.{is-mark as mark-read}
-use Rattle.tables.specs.Sweep.{joinCell}
-use Rattle.tables.proofs.Turns.{Turns, turns-none, turns-more, turns-all, row-at-mark, read-stored, read-cell, join-cell-is, join-row-is}
-use Rattle.tables.proofs.Steps.{cell-lowers}
+use Rattle.cell.proofs.CellMethods.{is-mark as mark-read}
+use Rattle.lowering.specs.Sweep.{joinCell}
+use Rattle.lowering.proofs.Code.LoopTurns.{Turns, turns-none, turns-more, turns-all, row-at-mark, read-stored, read-cell, join-cell-is, join-row-is}
+use Rattle.lowering.proofs.Theory.SweepSteps.{cell-lowers}
 use borrow.Author.Needs.{needs}
 use Rattle.wide.proofs.joins.join_row.Statement.{statement}
 use Rattle.wide.proofs.joins.join_row.Tie as tie
@@ -17,15 +17,6 @@ Inv-loop t₀ n y x a z₀ t z = Turns adding n n (joinCell adding n y x (cell64
 
 abbrev μ-loop : tie.MeasureT-loop
 μ-loop t₀ n y x a z₀ t z = n - z
-
-get-requires : tie.Need-get-requires Inv-loop μ-loop
-get-requires c κs = search needs
-
-is-mark-requires : tie.Need-is-mark-requires Inv-loop μ-loop
-is-mark-requires c κs = search needs
-
-same-length : tie.Need-same-length Inv-loop μ-loop
-same-length c = search needs
 
 returns : tie.Need-returns Inv-loop μ-loop
 returns c =
@@ -38,14 +29,6 @@ returns c =
     (row-at-mark adding (s .args .n) (s .args .y) (s .args .x) (s .args .t .now)
     (sym (read-cell adding (s .args .n) (s .args .x) (s .args .y) (s .args .t .now) (get .result .v) (get .ensures)) ∙ cell))
 
-loop-holds : tie.Need-loop-holds Inv-loop μ-loop
-loop-holds c =
-    let s = c .before .before .before .before in
-    turns-none (s .pre .3)
-
-get-requires-2 : tie.Need-get-requires-2 Inv-loop μ-loop
-get-requires-2 c κs = search needs
-
 add-requires : tie.Need-add-requires Inv-loop μ-loop
 add-requires c κs =
     let s = c .before .before .before .before .before .before .before .before .before in
@@ -55,15 +38,6 @@ add-requires c κs =
       read-stored adding (s .args .n) (s .args .x) (s .args .y) (s .args .t .now) (get .result .v) (s .pre .3) (s .pre .0) (s .pre .1) (get .ensures),
       read-stored adding (s .args .n) (s .args .y) (loop .z) (loop .t) (get2 .result .v) (loop .inv .lowered .sound) (s .pre .1) (omega arith) (get2 .ensures),
     )
-
-lower-cell-requires : tie.Need-lower-cell-requires Inv-loop μ-loop
-lower-cell-requires c κs = search needs
-
-add-z : tie.Need-add-z Inv-loop μ-loop
-add-z c = search needs
-
-loop-less : tie.Need-loop-less Inv-loop μ-loop
-loop-less c = search needs
 
 loop-again : tie.Need-loop-again Inv-loop μ-loop
 loop-again c =
@@ -77,9 +51,6 @@ loop-again c =
     (join-cell-is adding (s .args .n) (s .args .y) (s .args .x) (loop .z) (cell64 (get .result .v)) (loop .t) (lower-cell .last .0)
     (get2 .result .v) (add .result .v) (get2 .ensures) (add .ensures) (lower-cell .ensures))
 
-same-length-2 : tie.Need-same-length-2 Inv-loop μ-loop
-same-length-2 c = search needs
-
 returns-2 : tie.Need-returns-2 Inv-loop μ-loop
 returns-2 c =
     let s = c .before .before .before .before .before .before in
@@ -91,19 +62,8 @@ returns-2 c =
 pub join-row-spec : {M : Type 1} → statement M
 join-row-spec =
     tie.close
-    (tie.spec
-    Inv-loop
-    μ-loop
-    get-requires
-    is-mark-requires
-    same-length
-    returns
-    loop-holds
-    get-requires-2
-    add-requires
-    lower-cell-requires
-    add-z
-    loop-less
-    loop-again
-    same-length-2
-    returns-2)
+    (tie.spec Inv-loop μ-loop
+    (λ c κs. search needs) (λ c κs. search needs) (λ c. search needs) returns
+    (λ c. turns-none (c .before .before .before .before .pre .3))
+    (λ c κs. search needs) add-requires (λ c κs. search needs) (λ c. search needs) (λ c. search needs) loop-again
+    (λ c. search needs) returns-2)

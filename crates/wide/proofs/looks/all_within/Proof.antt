@@ -9,7 +9,7 @@ use lib.IntN.{pos}
 use Rattle.whole.proofs.Place.{square-le}
 use Rattle.rules.specs.Cells.{Within}
 use Rattle.cell.specs.Steps.{adding, cell64}
-use Rattle.tables.proofs.Seen.{looked-yes, looked-no, within-all, low-unfair}
+use Rattle.lowering.proofs.Code.LooksAtCells.{looked-yes, looked-no, within-all, low-unfair}
 use Rattle.wide.proofs.looks.all_within.Statement.{statement}
 use Rattle.wide.proofs.looks.all_within.Tie as tie
 
@@ -19,23 +19,6 @@ Inv-loop t n count i₀ i = (i ≤ count) × ((j : ℕ) → j < i → Within (ad
 abbrev μ-loop : tie.MeasureT-loop
 μ-loop t n count i₀ i = count - i
 
-mul-count : tie.Need-mul-count Inv-loop μ-loop
-mul-count c =
-    let s = c in
-    omega (arith, square-le (s .pre .0))
-
-loop-holds : tie.Need-loop-holds Inv-loop μ-loop
-loop-holds c = (omega arith, below-none _)
-
-cell-at-requires : tie.Need-cell-at-requires Inv-loop μ-loop
-cell-at-requires c κs =
-    let s = c .before .before in
-    let loop-test = c .loop-test in
-    omega (arith, s .pre .1 .room, loop-test .taken)
-
-in-wide-reach-requires : tie.Need-in-wide-reach-requires Inv-loop μ-loop
-in-wide-reach-requires c κs = search needs
-
 returns : tie.Need-returns Inv-loop μ-loop
 returns c =
     let s = c .before .before .before .before .before in
@@ -44,12 +27,6 @@ returns c =
     let in-wide-reach = c .before .in-wide-reach in
     let if1 = c .if1 in
     looked-no (low-unfair (s .args .t .now) (s .pre .1) (loop .i) (omega arith) (cell-at .ensures) (in-wide-reach .ensures .fails (not-true (in-wide-reach .result) (if1 .taken))))
-
-add-i : tie.Need-add-i Inv-loop μ-loop
-add-i c = search needs
-
-loop-less : tie.Need-loop-less Inv-loop μ-loop
-loop-less c = search needs
 
 loop-again : tie.Need-loop-again Inv-loop μ-loop
 loop-again c =
@@ -68,15 +45,8 @@ returns-2 c =
 pub all-within-spec : {M : Type 1} → statement M
 all-within-spec =
     tie.close
-    (tie.spec
-    Inv-loop
-    μ-loop
-    mul-count
-    loop-holds
-    cell-at-requires
-    in-wide-reach-requires
-    returns
-    add-i
-    loop-less
-    loop-again
-    returns-2)
+    (tie.spec Inv-loop μ-loop
+    (λ c. omega (arith, square-le (c .pre .0)))
+    (λ c. (omega arith, below-none _))
+    (λ c κs. omega (arith, c .before .before .pre .1 .room, c .loop-test .taken))
+    (λ c κs. search needs) returns (λ c. search needs) (λ c. search needs) loop-again returns-2)

@@ -1,21 +1,15 @@
 -- `looks::fair` meets its contract: both passes say nothing against the plan, or one of them does. Assumes nothing.
 use borrow.Author.Needs.{needs}
 use borrow.Author.Tests.{not-true, not-false}
-use Rattle.tables.proofs.Seen.{looked-no, looked-both}
+use Rattle.lowering.proofs.Code.LooksAtCells.{looked-no, looked-both}
 use Rattle.wide.proofs.looks.fair.Statement.{statement}
 use Rattle.wide.proofs.looks.fair.Tie as tie
-
-all-within-requires : tie.Need-all-within-requires
-all-within-requires c κs = search needs
 
 returns : tie.Need-returns
 returns c =
     let all-within = c .before .all-within in
     let if1 = c .if1 in
     looked-no (all-within .ensures .fails (not-true (all-within .result) (if1 .taken)))
-
-none-negative-requires : tie.Need-none-negative-requires
-none-negative-requires c κs = search needs
 
 returns-2 : tie.Need-returns-2
 returns-2 c =
@@ -25,10 +19,4 @@ returns-2 c =
     looked-both (all-within .ensures .holds (not-false (all-within .result) (if1 .left))) (none-negative .ensures)
 
 pub fair-spec : {M : Type 1} → statement M
-fair-spec =
-    tie.close
-    (tie.spec
-    all-within-requires
-    returns
-    none-negative-requires
-    returns-2)
+fair-spec = tie.close (tie.spec (λ c κs. search needs) returns (λ c κs. search needs) returns-2)

@@ -7,8 +7,8 @@ use lib.IntN.{pos}
 use Rattle.whole.proofs.Bits.{tested}
 use Rattle.cell.specs.Steps.{adding}
 use Rattle.rules.specs.Cells.{num, _≤ᶜ_, tableOf}
-use Rattle.wide.proofs.Numbers.{span-cell}
-use Rattle.tables.proofs.Seen.{looked-yes, looked-no, negative-unfair, not-negative}
+use Rattle.wide.proofs.WideCells.{span-cell}
+use Rattle.lowering.proofs.Code.LooksAtCells.{looked-yes, looked-no, negative-unfair, not-negative}
 use Rattle.wide.proofs.looks.none_negative.Statement.{statement}
 use Rattle.wide.proofs.looks.none_negative.Tie as tie
 
@@ -18,20 +18,6 @@ Inv-loop t n x₀ x = (x ≤ n) × ((j : ℕ) → j < x → num (pos 0) ≤ᶜ t
 abbrev μ-loop : tie.MeasureT-loop
 μ-loop t n x₀ x = n - x
 
-loop-holds : tie.Need-loop-holds Inv-loop μ-loop
-loop-holds c = (omega arith, below-none _)
-
-get-requires : tie.Need-get-requires Inv-loop μ-loop
-get-requires c κs =
-    let s = c .before .before in
-    (omega arith, omega arith, s .pre .1 .room, s .pre .0)
-
-of-requires : tie.Need-of-requires Inv-loop μ-loop
-of-requires c κs = search needs
-
-below-requires : tie.Need-below-requires Inv-loop μ-loop
-below-requires c κs = search needs
-
 returns : tie.Need-returns Inv-loop μ-loop
 returns c =
     let s = c .before .before .before .before .before .before in
@@ -40,12 +26,6 @@ returns c =
     let below = c .before .below in
     let if1 = c .if1 in
     looked-no (negative-unfair (s .args .t .now) (omega arith) (get .ensures) (span-cell (omega arith) (of .ensures)) (tested (below .ensures) (if1 .taken)))
-
-add-x : tie.Need-add-x Inv-loop μ-loop
-add-x c = search needs
-
-loop-less : tie.Need-loop-less Inv-loop μ-loop
-loop-less c = search needs
 
 loop-again : tie.Need-loop-again Inv-loop μ-loop
 loop-again c =
@@ -60,23 +40,11 @@ loop-again c =
           (not-negative adding (s .args .n) (loop .x) (s .args .t .now) (get .ensures) (span-cell (omega arith) (of .ensures)) (tested (below .ensures) (if1 .left))),
     )
 
-returns-2 : tie.Need-returns-2 Inv-loop μ-loop
-returns-2 c =
-    let loop = c .before .loop in
-    looked-yes (λ x h. loop .inv .1 x (omega arith))
-
 pub none-negative-spec : {M : Type 1} → statement M
 none-negative-spec =
     tie.close
-    (tie.spec
-    Inv-loop
-    μ-loop
-    loop-holds
-    get-requires
-    of-requires
-    below-requires
-    returns
-    add-x
-    loop-less
-    loop-again
-    returns-2)
+    (tie.spec Inv-loop μ-loop
+    (λ c. (omega arith, below-none _))
+    (λ c κs. (omega arith, omega arith, c .before .before .pre .1 .room, c .before .before .pre .0))
+    (λ c κs. search needs) (λ c κs. search needs) returns (λ c. search needs) (λ c. search needs) loop-again
+    (λ c. looked-yes (λ x h. c .before .loop .inv .1 x (omega arith))))

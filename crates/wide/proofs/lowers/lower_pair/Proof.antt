@@ -3,11 +3,11 @@ use mathlib.Core.Path.{refl}
 use native.Mathlib.Omega.{arith}
 use Rattle.cell.specs.Steps.{adding}
 use Rattle.plan.specs.Values.{linkOf}
-use Rattle.cell.proofs.Cells.{spread-is}
-use Rattle.tables.proofs.Turns.{read-stored}
-use Rattle.tables.proofs.Links.{pair-own, pair-is}
+use Rattle.cell.proofs.StoredCells.{spread-is}
+use Rattle.lowering.proofs.Code.LoopTurns.{read-stored}
+use Rattle.lowering.proofs.Code.LinksAsRead.{pair-own, pair-is}
 use borrow.Author.Needs.{needs}
-use Rattle.wide.proofs.Start.{weights-held}
+use Rattle.wide.proofs.AddStart.{weights-held}
 use Rattle.wide.proofs.lowers.lower_pair.Statement.{statement}
 use Rattle.wide.proofs.lowers.lower_pair.Tie as tie
 
@@ -17,21 +17,6 @@ returns c =
     let if1 = c .if1 in
     pair-own adding (s .args .n) (linkOf (s .args .a)) (linkOf (s .args .b)) (s .args .t .now) (if1 .taken)
 
-cast-from : tie.Need-cast-from
-cast-from c = search needs
-
-cast-by : tie.Need-cast-by
-cast-by c = search needs
-
-cast-to : tie.Need-cast-to
-cast-to c = search needs
-
-get-requires : tie.Need-get-requires
-get-requires c κs = search needs
-
-sub-lower : tie.Need-sub-lower
-sub-lower c = search needs
-
 lower-requires : tie.Need-lower-requires
 lower-requires c κs =
     let s = c .before .before .before .before .before .before .before .before .before .before in
@@ -40,12 +25,6 @@ lower-requires c κs =
       omega (arith, s .pre .1 .order, s .pre .1 .most, weights-held),
       omega (arith, s .pre .2 .most, weights-held),
     )
-
-lower-cell-requires : tie.Need-lower-cell-requires
-lower-cell-requires c κs = search needs
-
-same-length : tie.Need-same-length
-same-length c = search needs
 
 returns-2 : tie.Need-returns-2
 returns-2 c =
@@ -62,14 +41,5 @@ returns-2 c =
 pub lower-pair-spec : {M : Type 1} → statement M
 lower-pair-spec =
     tie.close
-    (tie.spec
-    returns
-    cast-from
-    cast-by
-    cast-to
-    get-requires
-    sub-lower
-    lower-requires
-    lower-cell-requires
-    same-length
-    returns-2)
+    (tie.spec returns (λ c. search needs) (λ c. search needs) (λ c. search needs) (λ c κs. search needs)
+    (λ c. search needs) lower-requires (λ c κs. search needs) (λ c. search needs) returns-2)

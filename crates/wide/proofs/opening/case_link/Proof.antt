@@ -1,30 +1,18 @@
 -- `opening::case_link` meets its contract: the shortest span is a number of a cell. Assumes nothing.
 use borrow.Author.Needs.{needs}
-use Rattle.wide.proofs.Start.{weights-held}
+use Rattle.wide.proofs.AddStart.{weights-held}
 use native.Mathlib.Omega.{arith}
 use Rattle.cell.specs.Steps.{adding}
-use Rattle.tables.specs.Sweep.{caseLink}
-use Rattle.tables.proofs.Links.{lowering-by}
-use Rattle.wide.proofs.Numbers.{span-cell}
+use Rattle.lowering.specs.Sweep.{caseLink}
+use Rattle.lowering.proofs.Code.LinksAsRead.{lowering-by}
+use Rattle.wide.proofs.WideCells.{span-cell}
 use Rattle.wide.proofs.opening.case_link.Statement.{statement}
 use Rattle.wide.proofs.opening.case_link.Tie as tie
-
-cast-from : tie.Need-cast-from
-cast-from c = search needs
-
-cast-to : tie.Need-cast-to
-cast-to c = search needs
 
 of-requires : tie.Need-of-requires
 of-requires c κs =
     let s = c .before .before .before in
     omega (arith, s .pre .1 .order, s .pre .1 .most, weights-held)
-
-lower-cell-requires : tie.Need-lower-cell-requires
-lower-cell-requires c κs = search needs
-
-same-length : tie.Need-same-length
-same-length c = search needs
 
 returns : tie.Need-returns
 unfolding caseLink
@@ -38,10 +26,4 @@ returns c =
 pub case-link-spec : {M : Type 1} → statement M
 case-link-spec =
     tie.close
-    (tie.spec
-    cast-from
-    cast-to
-    of-requires
-    lower-cell-requires
-    same-length
-    returns)
+    (tie.spec (λ c. search needs) (λ c. search needs) of-requires (λ c κs. search needs) (λ c. search needs) returns)

@@ -3,14 +3,14 @@ use borrow.Author.Needs.{needs}
 use Prim.Native.Nat.{_-_}
 use native.Mathlib.Omega.{arith}
 use Rattle.cell.specs.Steps.{adding}
-use Rattle.wide.proofs.Start.{adding-coherent}
+use Rattle.wide.proofs.AddStart.{adding-coherent}
 use Rattle.rules.specs.Cells.{num}
 use lib.IntN.{pos}
-use Rattle.tables.specs.Sweep.{lowerCell, diagonalAll}
-use Rattle.tables.proofs.Steps.{diagonal-lowers}
-use Rattle.tables.proofs.Links.{lowering-by}
-use Rattle.wide.proofs.Numbers.{span-cell}
-use Rattle.tables.proofs.Turns.{Turns, turns-none, turns-more, turns-all}
+use Rattle.lowering.specs.Sweep.{lowerCell, diagonalAll}
+use Rattle.lowering.proofs.Theory.SweepSteps.{diagonal-lowers}
+use Rattle.lowering.proofs.Code.LinksAsRead.{lowering-by}
+use Rattle.wide.proofs.WideCells.{span-cell}
+use Rattle.lowering.proofs.Code.LoopTurns.{Turns, turns-none, turns-more, turns-all}
 use Rattle.wide.proofs.starting.diagonal_all.Statement.{statement}
 use Rattle.wide.proofs.starting.diagonal_all.Tie as tie
 
@@ -19,23 +19,6 @@ Inv-loop t₀ n x₀ t x = Turns adding n n (λ x. lowerCell adding n x x (num (
 
 abbrev μ-loop : tie.MeasureT-loop
 μ-loop t₀ n x₀ t x = n - x
-
-loop-holds : tie.Need-loop-holds Inv-loop μ-loop
-loop-holds c =
-    let s = c in
-    turns-none (s .pre .1)
-
-of-requires : tie.Need-of-requires Inv-loop μ-loop
-of-requires c κs = search needs
-
-lower-cell-requires : tie.Need-lower-cell-requires Inv-loop μ-loop
-lower-cell-requires c κs = search needs
-
-add-x : tie.Need-add-x Inv-loop μ-loop
-add-x c = search needs
-
-loop-less : tie.Need-loop-less Inv-loop μ-loop
-loop-less c = search needs
 
 loop-again : tie.Need-loop-again Inv-loop μ-loop
 loop-again c =
@@ -46,26 +29,12 @@ loop-again c =
     turns-more (diagonal-lowers adding adding-coherent (s .args .n)) (loop .inv) (omega arith)
     (lowering-by adding (s .args .n) (loop .x) (loop .x) (loop .t) (lower-cell .last .0) (of .result .v) (span-cell (omega arith) (of .ensures)) (lower-cell .ensures))
 
-same-length : tie.Need-same-length Inv-loop μ-loop
-same-length c = search needs
-
-returns : tie.Need-returns Inv-loop μ-loop
-unfolding diagonalAll
-returns c =
-    let loop = c .before .loop in
-    turns-all (loop .inv) (omega arith)
-
 pub diagonal-all-spec : {M : Type 1} → statement M
+unfolding diagonalAll
 diagonal-all-spec =
     tie.close
-    (tie.spec
-    Inv-loop
-    μ-loop
-    loop-holds
-    of-requires
-    lower-cell-requires
-    add-x
-    loop-less
-    loop-again
-    same-length
-    returns)
+    (tie.spec Inv-loop μ-loop
+    (λ c. turns-none (c .pre .1))
+    (λ c κs. search needs) (λ c κs. search needs) (λ c. search needs) (λ c. search needs) loop-again
+    (λ c. search needs)
+    (λ c. turns-all (c .before .loop .inv) (omega arith)))

@@ -1,26 +1,11 @@
 -- `starting::limit_cell` meets its contract: a weight in range is a number of a cell. Assumes nothing.
 use borrow.Author.Needs.{needs}
 use Rattle.cell.specs.Steps.{adding}
-use Rattle.tables.specs.Sweep.{limitCell}
-use Rattle.tables.proofs.Links.{lowering-by}
-use Rattle.wide.proofs.Numbers.{weight-cell}
+use Rattle.lowering.specs.Sweep.{limitCell}
+use Rattle.lowering.proofs.Code.LinksAsRead.{lowering-by}
+use Rattle.wide.proofs.WideCells.{weight-cell}
 use Rattle.wide.proofs.starting.limit_cell.Statement.{statement}
 use Rattle.wide.proofs.starting.limit_cell.Tie as tie
-
-cast-from : tie.Need-cast-from
-cast-from c = search needs
-
-cast-to : tie.Need-cast-to
-cast-to c = search needs
-
-widened-requires : tie.Need-widened-requires
-widened-requires c κs = search needs
-
-lower-cell-requires : tie.Need-lower-cell-requires
-lower-cell-requires c κs = search needs
-
-same-length : tie.Need-same-length
-same-length c = search needs
 
 returns : tie.Need-returns
 unfolding limitCell
@@ -34,10 +19,5 @@ returns c =
 pub limit-cell-spec : {M : Type 1} → statement M
 limit-cell-spec =
     tie.close
-    (tie.spec
-    cast-from
-    cast-to
-    widened-requires
-    lower-cell-requires
-    same-length
-    returns)
+    (tie.spec (λ c. search needs) (λ c. search needs) (λ c κs. search needs) (λ c κs. search needs)
+    (λ c. search needs) returns)

@@ -2,23 +2,17 @@
 use borrow.Author.Needs.{needs}
 use mathlib.Core.Path.{ap, _∙_}
 use Rattle.cell.specs.Steps.{adding}
-use Rattle.tables.specs.Sweep.{joinAll}
-use Rattle.tables.proofs.Links.{few}
-use Rattle.wide.proofs.Numbers.{sound-case}
+use Rattle.lowering.specs.Sweep.{joinAll}
+use Rattle.lowering.proofs.Code.LinksAsRead.{few}
+use Rattle.wide.proofs.WideCells.{sound-case}
 use Rattle.wide.proofs.sweep.join_cases.Statement.{statement}
 use Rattle.wide.proofs.sweep.join_cases.Tie as tie
-
-case-all-requires : tie.Need-case-all-requires
-case-all-requires c κs = search needs
 
 join-all-requires : tie.Need-join-all-requires
 join-all-requires c κs =
     let s = c .before .before .before .before .before in
     let case-all = c .before .before .case-all in
     (few (s .pre .0), sound-case (s .pre .0) (s .pre .1) (case-all .ensures))
-
-same-length : tie.Need-same-length
-same-length c = search needs
 
 returns : tie.Need-returns
 returns c =
@@ -28,4 +22,4 @@ returns c =
     join-all .ensures ∙ ap (joinAll adding (s .args .n)) (case-all .ensures)
 
 pub join-cases-spec : {M : Type 1} → statement M
-join-cases-spec = tie.close (tie.spec case-all-requires join-all-requires same-length returns)
+join-cases-spec = tie.close (tie.spec (λ c κs. search needs) join-all-requires (λ c. search needs) returns)

@@ -3,16 +3,11 @@ use borrow.Author.Needs.{needs}
 use mathlib.Core.Path.{ap, _∙_}
 use Rattle.cell.specs.Steps.{adding}
 use Rattle.plan.specs.Layout.{linkAt}
-use Rattle.tables.specs.Sweep.{lowerAll, upperAll, sweepStrict}
-use Rattle.tables.proofs.Links.{few}
-use Rattle.wide.proofs.Numbers.{sound-joins, sound-lower}
+use Rattle.lowering.specs.Sweep.{lowerAll, upperAll, sweepStrict}
+use Rattle.lowering.proofs.Code.LinksAsRead.{few}
+use Rattle.wide.proofs.WideCells.{sound-joins, sound-lower}
 use Rattle.wide.proofs.sweep.sweep_strict.Statement.{statement}
 use Rattle.wide.proofs.sweep.sweep_strict.Tie as tie
-
-join-all-requires : tie.Need-join-all-requires
-join-all-requires c κs =
-    let s = c .before .before in
-    (few (s .pre .0), s .pre .1)
 
 lower-all-requires : tie.Need-lower-all-requires
 lower-all-requires c κs =
@@ -26,9 +21,6 @@ upper-all-requires c κs =
     let join-all = c .before .before .before .before .before .join-all in
     let lower-all = c .before .before .lower-all in
     (s .pre .0, sound-lower (s .pre .0) (sound-joins (s .pre .1) (join-all .ensures)) (lower-all .ensures))
-
-same-length : tie.Need-same-length
-same-length c = search needs
 
 returns : tie.Need-returns
 unfolding sweepStrict
@@ -44,9 +36,5 @@ returns c =
 pub sweep-strict-spec : {M : Type 1} → statement M
 sweep-strict-spec =
     tie.close
-    (tie.spec
-    join-all-requires
-    lower-all-requires
-    upper-all-requires
-    same-length
-    returns)
+    (tie.spec (λ c κs. (few (c .before .before .pre .0), c .before .before .pre .1))
+    lower-all-requires upper-all-requires (λ c. search needs) returns)

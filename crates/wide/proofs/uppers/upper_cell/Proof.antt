@@ -3,21 +3,12 @@ use mathlib.Core.Path.{refl}
 use native.Mathlib.Omega.{arith}
 use Rattle.cell.specs.Steps.{adding}
 use Rattle.plan.specs.Values.{linkOf}
-use Rattle.tables.proofs.Turns.{read-stored}
-use Rattle.tables.proofs.Links.{upper-cell-is}
+use Rattle.lowering.proofs.Code.LoopTurns.{read-stored}
+use Rattle.lowering.proofs.Code.LinksAsRead.{upper-cell-is}
 use borrow.Author.Needs.{needs}
-use Rattle.wide.proofs.Start.{weights-held}
+use Rattle.wide.proofs.AddStart.{weights-held}
 use Rattle.wide.proofs.uppers.upper_cell.Statement.{statement}
 use Rattle.wide.proofs.uppers.upper_cell.Tie as tie
-
-cast-by : tie.Need-cast-by
-cast-by c = search needs
-
-cast-to : tie.Need-cast-to
-cast-to c = search needs
-
-get-requires : tie.Need-get-requires
-get-requires c κs = search needs
 
 upper-requires : tie.Need-upper-requires
 upper-requires c κs =
@@ -27,12 +18,6 @@ upper-requires c κs =
       omega (arith, s .pre .2 .order, s .pre .2 .most, weights-held),
       omega (arith, s .pre .2 .most, weights-held),
     )
-
-lower-cell-requires : tie.Need-lower-cell-requires
-lower-cell-requires c κs = search needs
-
-same-length : tie.Need-same-length
-same-length c = search needs
 
 returns : tie.Need-returns
 returns c =
@@ -47,11 +32,5 @@ returns c =
 pub upper-cell-spec : {M : Type 1} → statement M
 upper-cell-spec =
     tie.close
-    (tie.spec
-    cast-by
-    cast-to
-    get-requires
-    upper-requires
-    lower-cell-requires
-    same-length
-    returns)
+    (tie.spec (λ c. search needs) (λ c. search needs) (λ c κs. search needs) upper-requires (λ c κs. search needs)
+    (λ c. search needs) returns)

@@ -3,12 +3,12 @@ use borrow.Author.Needs.{needs}
 use Prim.Native.Nat.{_-_}
 use native.Mathlib.Omega.{arith}
 use Rattle.cell.specs.Steps.{adding}
-use Rattle.wide.proofs.Start.{adding-coherent}
+use Rattle.wide.proofs.AddStart.{adding-coherent}
 use Rattle.plan.specs.Layout.{linkAt}
-use Rattle.tables.specs.Sweep.{upperCell, upperPoint}
-use Rattle.tables.proofs.Turns.{Turns, turns-none, turns-more, turns-all}
-use Rattle.tables.proofs.Steps.{upper-cell-lowers}
-use Rattle.tables.proofs.Links.{few, link-read, link-points, at-read}
+use Rattle.lowering.specs.Sweep.{upperCell, upperPoint}
+use Rattle.lowering.proofs.Code.LoopTurns.{Turns, turns-none, turns-more, turns-all}
+use Rattle.lowering.proofs.Theory.SweepSteps.{upper-cell-lowers}
+use Rattle.lowering.proofs.Code.LinksAsRead.{few, link-read, link-points, at-read}
 use Rattle.wide.proofs.uppers.upper_point.Statement.{statement}
 use Rattle.wide.proofs.uppers.upper_point.Tie as tie
 
@@ -18,26 +18,12 @@ Inv-loop file n m k t₀ x i₀ t i = Turns adding n k (λ i. upperCell adding n
 abbrev μ-loop : tie.MeasureT-loop
 μ-loop file n m k t₀ x i₀ t i = k - i
 
-loop-holds : tie.Need-loop-holds Inv-loop μ-loop
-loop-holds c =
-    let s = c .before in
-    turns-none (s .pre .2)
-
-link-of-requires : tie.Need-link-of-requires Inv-loop μ-loop
-link-of-requires c κs = search needs
-
 upper-cell-requires : tie.Need-upper-cell-requires Inv-loop μ-loop
 upper-cell-requires c κs =
     let s = c .before .before .before .before .before in
     let loop = c .before .before .before .loop in
     let link-of = c .before .link-of in
     (s .pre .0, few (s .pre .1), link-read (s .pre .1) (loop .i) (omega arith) (link-of .ensures), loop .inv .lowered .sound)
-
-add-i : tie.Need-add-i Inv-loop μ-loop
-add-i c = search needs
-
-loop-less : tie.Need-loop-less Inv-loop μ-loop
-loop-less c = search needs
 
 loop-again : tie.Need-loop-again Inv-loop μ-loop
 loop-again c =
@@ -48,26 +34,11 @@ loop-again c =
     turns-more (upper-cell-lowers adding adding-coherent (s .args .n) (linkAt (s .args .file .now) (s .args .m)) (s .args .k) (link-points (s .pre .1)) (s .args .x) (s .pre .0)) (loop .inv) (omega arith)
     (at-read (λ a. upperCell adding (s .args .n) (s .args .x) a (loop .t)) (link-of .ensures) (upper-cell .ensures))
 
-same-length : tie.Need-same-length Inv-loop μ-loop
-same-length c = search needs
-
-returns : tie.Need-returns Inv-loop μ-loop
-unfolding upperPoint
-returns c =
-    let loop = c .before .loop in
-    turns-all (loop .inv) (omega arith)
-
 pub upper-point-spec : {M : Type 1} → statement M
+unfolding upperPoint
 upper-point-spec =
     tie.close
-    (tie.spec
-    Inv-loop
-    μ-loop
-    loop-holds
-    link-of-requires
-    upper-cell-requires
-    add-i
-    loop-less
-    loop-again
-    same-length
-    returns)
+    (tie.spec Inv-loop μ-loop
+    (λ c. turns-none (c .before .pre .2))
+    (λ c κs. search needs) upper-cell-requires (λ c. search needs) (λ c. search needs) loop-again (λ c. search needs)
+    (λ c. turns-all (c .before .loop .inv) (omega arith)))

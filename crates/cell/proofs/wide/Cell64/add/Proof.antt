@@ -1,7 +1,7 @@
 -- `Cell64::add` meets its contract: past the two tests for the mark both cells are numbers, and Join is their sum. Assumes nothing.
 use borrow.Author.Needs.{needs}
 use Rattle.cell.specs.Steps.{adding, cell64}
-use Rattle.cell.proofs.Laws.{Number, number, is-mark, room64, join-left, join-right, join}
+use Rattle.cell.proofs.CellMethods.{Number, number, is-mark, room64, join-left, join-right, join}
 use Rattle.cell.proofs.wide.Cell64.add.Statement.{statement}
 use Rattle.cell.proofs.wide.Cell64.add.Tie as tie
 
@@ -13,25 +13,14 @@ second c =
     let s = c .before .before .before .before in
     number (s .args .o .v) (c .before .is-mark2 .ensures) (c .if2 .left) (s .pre .1)
 
-is-mark-requires : tie.Need-is-mark-requires
-is-mark-requires c κs = search needs
-
-returns : tie.Need-returns
-returns c = join-left _ (is-mark (c .before .is-mark .ensures) (c .if1 .taken))
-
-is-mark-requires-2 : tie.Need-is-mark-requires-2
-is-mark-requires-2 c κs = search needs
-
 returns-2 : tie.Need-returns-2
 returns-2 c = join-right (cell64 (c .before .before .before .before .args .self .v)) (is-mark (c .before .is-mark2 .ensures) (c .if2 .taken))
-
-plus-requires : tie.Need-plus-requires
-plus-requires c κs = join room64 (first (c .before .before)) (second c) .fits
-
-returns-3 : tie.Need-returns-3
-returns-3 c = rw (c .plus .ensures) (join room64 (first (c .before .before .before)) (second (c .before)) .is)
 
 pub add-spec : {M : Type 1} → statement M
 add-spec =
     tie.close
-    (tie.spec is-mark-requires returns is-mark-requires-2 returns-2 plus-requires returns-3)
+    (tie.spec (λ c κs. search needs)
+    (λ c. join-left _ (is-mark (c .before .is-mark .ensures) (c .if1 .taken)))
+    (λ c κs. search needs) returns-2
+    (λ c κs. join room64 (first (c .before .before)) (second c) .fits)
+    (λ c. rw (c .plus .ensures) (join room64 (first (c .before .before .before)) (second (c .before)) .is)))

@@ -2,7 +2,7 @@
 use mir.Syntax.{w64}
 use mir.Val.{SFits}
 use Rattle.whole.proofs.Bits.{back, fit}
-use Rattle.cell.proofs.Laws.{room64, below-flag}
+use Rattle.cell.proofs.CellMethods.{room64, below-flag}
 use Rattle.cell.proofs.wide.Cell64.below.Statement.{statement}
 use Rattle.cell.proofs.wide.Cell64.below.Tie as tie
 

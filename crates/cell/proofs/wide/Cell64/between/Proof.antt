@@ -4,27 +4,18 @@ use mathlib.Core.Path.{_≡_}
 use Rattle.whole.proofs.Bits.{tested}
 use Rattle.rules.specs.Cells.{num}
 use Rattle.cell.specs.Steps.{adding, cell64}
-use Rattle.cell.proofs.Laws.{is-mark, no-mark, reach-mark, reach-above, reach-below, reach-within}
+use Rattle.cell.proofs.CellMethods.{is-mark, no-mark, reach-mark, reach-above, reach-below, reach-within}
 use Rattle.cell.proofs.wide.Cell64.between.Statement.{statement}
 use Rattle.cell.proofs.wide.Cell64.between.Tie as tie
 
 cell : (c : tie.Else1) → cell64 (c .before .before .args .self .v) ≡ num (c .before .before .args .self .v)
 cell c = no-mark (adding .mark) (c .before .before .args .self .v) (c .before .is-mark .ensures) (c .if1 .left)
 
-is-mark-requires : tie.Need-is-mark-requires
-is-mark-requires c κs = search needs
-
 returns : tie.Need-returns
 returns c n el em = reach-mark n (cell64 (c .before .before .args .self .v)) (is-mark (c .before .is-mark .ensures) (c .if1 .taken))
 
-less-requires : tie.Need-less-requires
-less-requires c κs = search needs
-
 returns-2 : tie.Need-returns-2
 returns-2 c n el em = reach-above n (cell (c .before .before)) (rw em at (tested (c .before .less .ensures) (c .if2 .taken)))
-
-less-requires-2 : tie.Need-less-requires-2
-less-requires-2 c κs = search needs
 
 returns-3 : tie.Need-returns-3
 returns-3 c n el em = reach-below n (cell (c .before .before .before .before)) (rw el at (tested (c .before .less2 .ensures) (c .if3 .taken)))
@@ -39,4 +30,5 @@ returns-4 c n el em =
 pub between-spec : {M : Type 1} → statement M
 between-spec =
     tie.close
-    (tie.spec is-mark-requires returns less-requires returns-2 less-requires-2 returns-3 returns-4)
+    (tie.spec (λ c κs. search needs) returns (λ c κs. search needs) returns-2 (λ c κs. search needs) returns-3
+    returns-4)

@@ -5,12 +5,6 @@ use Rattle.rules.specs.Plan.{version1}
 use Rattle.cell.proofs.wide.Cell64.in_reach.Statement.{statement}
 use Rattle.cell.proofs.wide.Cell64.in_reach.Tie as tie
 
-between-requires : tie.Need-between-requires
-between-requires c κs = search needs
-
-returns : tie.Need-returns
-unfolding version1
-returns c = c .between .ensures (version1 .reach) refl refl
-
 pub in-reach-spec : {M : Type 1} → statement M
-in-reach-spec = tie.close (tie.spec between-requires returns)
+unfolding version1
+in-reach-spec = tie.close (tie.spec (λ c κs. search needs) (λ c. c .between .ensures (version1 .reach) refl refl))

@@ -2,7 +2,7 @@
 use mir.Syntax.{w64}
 use Rattle.whole.proofs.Bits.{fit}
 use Rattle.cell.specs.Steps.{adding}
-use Rattle.cell.proofs.Laws.{room64, mark-flag}
+use Rattle.cell.proofs.CellMethods.{room64, mark-flag}
 use Rattle.cell.proofs.wide.Cell64.is_mark.Statement.{statement}
 use Rattle.cell.proofs.wide.Cell64.is_mark.Tie as tie
 

@@ -4,9 +4,6 @@ use Rattle.cell.specs.Steps.{adding}
 use Rattle.cell.proofs.wide.Cell64.mark.Statement.{statement}
 use Rattle.cell.proofs.wide.Cell64.mark.Tie as tie
 
-returns : tie.Need-returns
-unfolding adding
-returns c = refl
-
 pub mark-spec : {M : Type 1} → statement M
-mark-spec = tie.close (tie.spec returns)
+unfolding adding
+mark-spec = tie.close (tie.spec (λ c. refl))

@@ -7,7 +7,7 @@ use Rattle.whole.proofs.Bits.{signed, back, fit}
 use Rattle.rules.specs.Plan.{version1}
 use Rattle.rules.specs.Cells.{num, Within}
 use Rattle.cell.specs.Steps.{adding, cell64}
-use Rattle.cell.proofs.Laws.{is-mark, no-mark, cast-cell}
+use Rattle.cell.proofs.CellMethods.{is-mark, no-mark, cast-cell}
 use Rattle.cell.proofs.wide.Cell64.narrowed.Statement.{statement}
 use Rattle.cell.proofs.wide.Cell64.narrowed.Tie as tie
 
@@ -20,15 +20,6 @@ range c = rw (cell c) at (c .before .before .pre)
 fits : (c : tie.After-struct-told) → SFits w64 (c .before .before .before .before .args .self .v)
 fits c = fit w64 (c .before .before .before .before .args .self .v) (c .struct-told .given .0 .1)
 
-is-mark-requires : tie.Need-is-mark-requires
-is-mark-requires c κs = search needs
-
-mark-requires : tie.Need-mark-requires
-mark-requires c κs = search needs
-
-returns : tie.Need-returns
-returns c = c .mark .ensures ∙ sym (is-mark (c .before .before .is-mark .ensures) (c .before .if1 .taken))
-
 cast-t3 : tie.Need-cast-t3
 unfolding version1
 cast-t3 c = let r = range (c .before .before) in rw (back (fits c)) (omega signed)
@@ -38,4 +29,8 @@ unfolding version1
 returns-2 c = let r = range (c .before .before) in cast-cell (version1 .mark) (fits c) (omega signed) (cell (c .before .before)) (omega signed)
 
 pub narrowed-spec : {M : Type 1} → statement M
-narrowed-spec = tie.close (tie.spec is-mark-requires mark-requires returns cast-t3 returns-2)
+narrowed-spec =
+    tie.close
+    (tie.spec (λ c κs. search needs) (λ c κs. search needs)
+    (λ c. c .mark .ensures ∙ sym (is-mark (c .before .before .is-mark .ensures) (c .before .if1 .taken)))
+    cast-t3 returns-2)

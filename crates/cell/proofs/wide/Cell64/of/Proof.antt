@@ -6,13 +6,6 @@ use Rattle.cell.specs.Steps.{adding}
 use Rattle.cell.proofs.wide.Cell64.of.Statement.{statement}
 use Rattle.cell.proofs.wide.Cell64.of.Tie as tie
 
-cast-t2 : tie.Need-cast-t2
-unfolding adding
-cast-t2 c = omega signed
-
-returns : tie.Need-returns
-unfolding adding
-returns c = cast-pos w64 (c .args .n) (omega arith)
-
 pub of-spec : {M : Type 1} → statement M
-of-spec = tie.close (tie.spec cast-t2 returns)
+unfolding adding
+of-spec = tie.close (tie.spec (λ c. omega signed) (λ c. cast-pos w64 (c .args .n) (omega arith)))

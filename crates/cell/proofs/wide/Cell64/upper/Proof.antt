@@ -1,33 +1,12 @@
 -- `Cell64::upper` meets its contract: the mark stays, and past the test for it the cell is a number. Assumes nothing.
 use borrow.Author.Needs.{needs}
 use Rattle.cell.specs.Steps.{adding}
-use Rattle.cell.proofs.Laws.{Number, number, is-mark, room64, upper-mark, upper-fits, negation-fits, upper-is}
+use Rattle.cell.proofs.CellMethods.{Number, number, is-mark, room64, upper-mark, upper-fits, negation-fits, upper-is}
 use Rattle.cell.proofs.wide.Cell64.upper.Statement.{statement}
 use Rattle.cell.proofs.wide.Cell64.upper.Tie as tie
 
 cell : (c : tie.Else1) → Number adding (c .before .before .args .self .v)
 cell c = number (c .before .before .args .self .v) (c .before .is-mark .ensures) (c .if1 .left) (c .before .before .pre .0)
-
-is-mark-requires : tie.Need-is-mark-requires
-is-mark-requires c κs = search needs
-
-returns : tie.Need-returns
-returns c k _ _ = upper-mark (is-mark (c .before .is-mark .ensures) (c .if1 .taken)) k
-
-of-requires : tie.Need-of-requires
-of-requires c κs = search needs
-
-minus-requires : tie.Need-minus-requires
-minus-requires c κs = rw (c .of .ensures) (upper-fits room64 (cell (c .before)) (c .before .before .before .pre .2))
-
-of-requires-2 : tie.Need-of-requires-2
-of-requires-2 c κs = search needs
-
-negated-requires : tie.Need-negated-requires
-negated-requires c κs = rw (c .of2 .ensures) (negation-fits room64 (c .before .before .before .before .before .pre .1))
-
-larger-requires : tie.Need-larger-requires
-larger-requires c κs = search needs
 
 returns-2 : tie.Need-returns-2
 returns-2 c k e f =
@@ -39,12 +18,10 @@ returns-2 c k e f =
 pub upper-spec : {M : Type 1} → statement M
 upper-spec =
     tie.close
-    (tie.spec
-    is-mark-requires
-    returns
-    of-requires
-    minus-requires
-    of-requires-2
-    negated-requires
-    larger-requires
-    returns-2)
+    (tie.spec (λ c κs. search needs)
+    (λ c k _ _. upper-mark (is-mark (c .before .is-mark .ensures) (c .if1 .taken)) k)
+    (λ c κs. search needs)
+    (λ c κs. rw (c .of .ensures) (upper-fits room64 (cell (c .before)) (c .before .before .before .pre .2)))
+    (λ c κs. search needs)
+    (λ c κs. rw (c .of2 .ensures) (negation-fits room64 (c .before .before .before .before .before .pre .1)))
+    (λ c κs. search needs) returns-2)

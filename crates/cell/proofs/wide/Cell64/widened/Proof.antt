@@ -7,7 +7,7 @@ use Rattle.whole.proofs.Bits.{signed, back, fit, kept}
 use Rattle.rules.specs.Plan.{version1}
 use Rattle.rules.specs.Cells.{num}
 use Rattle.cell.specs.Steps.{adding, cell32}
-use Rattle.cell.proofs.Laws.{is-mark, no-mark, cast-cell}
+use Rattle.cell.proofs.CellMethods.{is-mark, no-mark, cast-cell}
 use Rattle.cell.proofs.wide.Cell64.widened.Statement.{statement}
 use Rattle.cell.proofs.wide.Cell64.widened.Tie as tie
 
@@ -17,21 +17,14 @@ cell c = no-mark (version1 .mark) (c .before .before .args .c .v) (c .before .is
 fits : (c : tie.After-struct-told) → SFits w32 (c .before .before .before .before .args .c .v)
 fits c = fit w32 (c .before .before .before .before .args .c .v) (c .struct-told .given .0 .1)
 
-is-mark-requires : tie.Need-is-mark-requires
-is-mark-requires c κs = search needs
-
-mark-requires : tie.Need-mark-requires
-mark-requires c κs = search needs
-
-returns : tie.Need-returns
-returns c = c .mark .ensures ∙ sym (is-mark (c .before .before .is-mark .ensures) (c .before .if1 .taken))
-
-cast-t3 : tie.Need-cast-t3
-cast-t3 c = rw (back (fits c)) (omega (signed, kept (fits c)))
-
 returns-2 : tie.Need-returns-2
 unfolding adding
 returns-2 c = cast-cell (adding .mark) (fits c) (omega (signed, kept (fits c))) (cell (c .before .before)) (omega (signed, kept (fits c)))
 
 pub widened-spec : {M : Type 1} → statement M
-widened-spec = tie.close (tie.spec is-mark-requires mark-requires returns cast-t3 returns-2)
+widened-spec =
+    tie.close
+    (tie.spec (λ c κs. search needs) (λ c κs. search needs)
+    (λ c. c .mark .ensures ∙ sym (is-mark (c .before .before .is-mark .ensures) (c .before .if1 .taken)))
+    (λ c. rw (back (fits c)) (omega (signed, kept (fits c))))
+    returns-2)

@@ -1,0 +1,50 @@
+-- `looks::height_all` meets its contract: the sum is that of the cells passed, and stays small. Assumes nothing.
+use borrow.Author.Needs.{needs}
+use mathlib.Core.Path.{_≡_, refl, ap, _∙_}
+use Prim.Native.Nat.{_+_, _-_, _≤_}
+use native.Mathlib.Omega.{arith}
+use Rattle.rules.specs.Plan.{version1}
+use Rattle.lowering.specs.Sweep.{heights}
+use Rattle.lowering.proofs.Code.LooksAtCells.{held-read, heights-most, heights-more}
+use Rattle.joining.proofs.looks.height_all.Statement.{statement}
+use Rattle.joining.proofs.looks.height_all.Tie as tie
+
+abbrev Inv-loop : tie.InvT-loop
+Inv-loop t count sum₀ i₀ sum i = (i ≤ count) × (sum ≡ heights version1 i t)
+
+abbrev μ-loop : tie.MeasureT-loop
+μ-loop t count sum₀ i₀ sum i = count - i
+
+height-requires : tie.Need-height-requires Inv-loop μ-loop
+height-requires c κs =
+    let s = c .before .before .before in
+    let loop = c .before .before .loop in
+    let cell-at = c .cell-at in
+    held-read (s .pre .1) (loop .i) (omega arith) (cell-at .ensures)
+
+add-sum : tie.Need-add-sum Inv-loop μ-loop
+unfolding version1
+add-sum c =
+    let s = c .before .before .before .before in
+    let loop = c .before .before .before .loop in
+    let cell-at = c .before .cell-at in
+    let height = c .height in
+    omega (arith, heights-more version1 (s .args .t .now) (loop .i) (cell-at .ensures) (height .ensures) (loop .inv .1), heights-most version1 (s .args .count) (s .args .t .now) (s .pre .1) (loop .i + 1) (omega arith))
+
+loop-again : tie.Need-loop-again Inv-loop μ-loop
+loop-again c =
+    let s = c .before .before .before .before in
+    let loop = c .before .before .before .loop in
+    let cell-at = c .before .cell-at in
+    let height = c .height in
+    (omega arith, heights-more version1 (s .args .t .now) (loop .i) (cell-at .ensures) (height .ensures) (loop .inv .1))
+
+pub height-all-spec : {M : Type 1} → statement M
+unfolding heights
+height-all-spec =
+    tie.close
+    (tie.spec Inv-loop μ-loop
+    (λ c. (omega arith, refl))
+    (λ c κs. omega (arith, c .before .before .pre .1 .room, c .loop-test .taken))
+    height-requires add-sum (λ c. search needs) (λ c. search needs) loop-again
+    (λ c. c .before .loop .inv .1 ∙ ap (λ i. heights version1 i (c .before .before .args .t .now)) (omega arith)))

@@ -1,0 +1,186 @@
+-- The tests decide what the paper's ranges say, and an answer is Done exactly where no test refuses.
+-- Assumes nothing.
+use mathlib.Core.Path.{_≡_, refl, sym, subst}
+use mathlib.Core.Logic.{_≢_, ⊎-elim}
+use mathlib.Core.Bool.{Bool, true, false, not, _&&_}
+use mathlib.Core.List.{List, [], _∷_, List·Memᴰ, List·Memᴰ·head, List·Memᴰ·tail, List·Memᴰ·cases-cons, List·Memᴰ·not-nil}
+use Prim.Native.Nat.{ℕ, suc}
+use lib.Dec.{T, leb, ltb, eqb}
+use lib.IntN.{ℤ, pos, negℤ}
+use lib.Signed.{leZ, _≤ℤ_}
+use borrow.Author.Tests.{ltb-true, leb-true, eqb-false, not-true, lt-ltb, le-leb, ne-eqb}
+use Rattle.rules.specs.Plan.{Limit, Link, Ranges, LimitInRange, LinkInRange, Unshared}
+use Rattle.rules.specs.declared.Answer.the-variants.{Done, BadLimit, BadLink, RepeatedLink}
+use Rattle.plan.proofs.TestsMade.{both, and}
+use Rattle.answers.specs.Order.{unless}
+use Rattle.answers.proofs.CodeZero.{then-done, done-then, unless-done, done-unless}
+use Rattle.plan.specs.File.{limitFits, linkFits, fresh, limitPlace, linkPlace, limitsAnswer, linkAnswer, linksAnswer}
+
+-- ---- tests
+
+leZ-le : (a b : ℤ) → leZ a b ≡ true → a ≤ℤ b
+leZ-le a b e = record { le = subst T (sym e) tt }
+
+le-leZ : (a b : ℤ) → a ≤ℤ b → leZ a b ≡ true
+le-leZ a b h = passes (leZ a b) (h .le)
+  where
+    passes : (t : Bool) → T t → t ≡ true
+    passes true x = refl
+    passes false x = absurd x
+
+-- a test for two different numbers
+differ : (a b : ℕ) → not (eqb a b) ≡ true → a ≢ b
+differ a b e = eqb-false a b (not-true (eqb a b) e)
+
+are-different : (a b : ℕ) → a ≢ b → not (eqb a b) ≡ true
+are-different a b h = rw (ne-eqb a b h)
+
+-- ---- limits
+
+pub limit-ok : (r : Ranges) (n : ℕ) (m : Limit) → limitFits r n m ≡ true → LimitInRange r n m
+unfolding limitFits
+limit-ok r n m e =
+    let from = ltb (m .from) n in
+    let to = ltb (m .to) n in
+    let least = leZ (negℤ (pos (r .weight))) (m .weight) in
+    let most = leZ (m .weight) (pos (r .weight)) in
+    let p = both (from && to && least) most e in
+    let q = both (from && to) least (p .0) in
+    let s = both from to (q .0) in
+    record {
+      from = ltb-true (m .from) n (s .0);
+      to = ltb-true (m .to) n (s .1);
+      least = leZ-le (negℤ (pos (r .weight))) (m .weight) (q .1);
+      most = leZ-le (m .weight) (pos (r .weight)) (p .1);
+    }
+
+pub ok-limit : (r : Ranges) (n : ℕ) (m : Limit) → LimitInRange r n m → limitFits r n m ≡ true
+unfolding limitFits
+ok-limit r n m h =
+    let p = and (lt-ltb (m .from) n (h .from)) (lt-ltb (m .to) n (h .to)) in
+    let q = and p (le-leZ (negℤ (pos (r .weight))) (m .weight) (h .least)) in
+    and q (le-leZ (m .weight) (pos (r .weight)) (h .most))
+
+-- the limits' answer is Done exactly where each is in range
+pub limits-ok : (r : Ranges) (n i : ℕ) (ms : List Limit) → limitsAnswer r n i ms ≡ Done → (m : Limit) → List·Memᴰ m ms → LimitInRange r n m
+limits-ok r n i [] e m h = absurd (List·Memᴰ·not-nil h)
+limits-ok r n i (x ∷ xs) e m h =
+    let p = then-done (unless (limitFits r n x) (BadLimit (limitPlace i))) (limitsAnswer r n (suc i) xs) e in
+    ⊎-elim
+    (λ (q : m ≡ x). rw q (limit-ok r n x (unless-done (limitFits r n x) (BadLimit (limitPlace i)) refl (p .0))))
+    (λ (t : List·Memᴰ m xs). limits-ok r n (suc i) xs (p .1) m t)
+    (List·Memᴰ·cases-cons h)
+
+pub ok-limits : (r : Ranges) (n i : ℕ) (ms : List Limit) → ((m : Limit) → List·Memᴰ m ms → LimitInRange r n m) → limitsAnswer r n i ms ≡ Done
+ok-limits r n i [] h = refl
+ok-limits r n i (x ∷ xs) h =
+    done-then (unless (limitFits r n x) (BadLimit (limitPlace i))) (limitsAnswer r n (suc i) xs)
+    (done-unless (limitFits r n x) (BadLimit (limitPlace i)) (ok-limit r n x (h x (List·Memᴰ·head refl))))
+    (ok-limits r n (suc i) xs (λ m t. h m (List·Memᴰ·tail t)))
+
+-- ---- links
+
+pub link-ok : (r : Ranges) (n : ℕ) (k : Link) → linkFits r n k ≡ true → LinkInRange r n k
+unfolding linkFits
+link-ok r n k e =
+    let act = ltb (k .act) n in
+    let con = ltb (k .con) n in
+    let differs = not (eqb (k .act) (k .con)) in
+    let not-start = not (eqb (k .con) 0) in
+    let least = leb 1 (k .short) in
+    let order = ltb (k .short) (k .long) in
+    let most = leb (k .long) (r .weight) in
+    let p = both (act && con && differs && not-start && least && order) most e in
+    let q = both (act && con && differs && not-start && least) order (p .0) in
+    let s = both (act && con && differs && not-start) least (q .0) in
+    let t = both (act && con && differs) not-start (s .0) in
+    let u = both (act && con) differs (t .0) in
+    let v = both act con (u .0) in
+    record {
+      act = ltb-true (k .act) n (v .0);
+      con = ltb-true (k .con) n (v .1);
+      differs = differ (k .act) (k .con) (u .1);
+      not-start = differ (k .con) 0 (t .1);
+      least = leb-true 1 (k .short) (s .1);
+      order = ltb-true (k .short) (k .long) (q .1);
+      most = leb-true (k .long) (r .weight) (p .1);
+    }
+
+pub ok-link : (r : Ranges) (n : ℕ) (k : Link) → LinkInRange r n k → linkFits r n k ≡ true
+unfolding linkFits
+ok-link r n k h =
+    let v = and (lt-ltb (k .act) n (h .act)) (lt-ltb (k .con) n (h .con)) in
+    let u = and v (are-different (k .act) (k .con) (h .differs)) in
+    let t = and u (are-different (k .con) 0 (h .not-start)) in
+    let s = and t (le-leb 1 (k .short) (h .least)) in
+    let q = and s (lt-ltb (k .short) (k .long) (h .order)) in
+    and q (le-leb (k .long) (r .weight) (h .most))
+
+-- a point is fresh exactly where it is no link's contingent point
+pub fresh-ok : (c : ℕ) (ks : List Link) → fresh c ks ≡ true → (k : Link) → List·Memᴰ k ks → k .con ≢ c
+fresh-ok c [] e k h = absurd (List·Memᴰ·not-nil h)
+fresh-ok c (x ∷ xs) e k h =
+    let p = both (not (eqb (x .con) c)) (fresh c xs) e in
+    ⊎-elim
+    (λ (q : k ≡ x). rw q (differ (x .con) c (p .0)))
+    (λ (t : List·Memᴰ k xs). fresh-ok c xs (p .1) k t)
+    (List·Memᴰ·cases-cons h)
+
+pub ok-fresh : (c : ℕ) (ks : List Link) → ((k : Link) → List·Memᴰ k ks → k .con ≢ c) → fresh c ks ≡ true
+ok-fresh c [] h = refl
+ok-fresh c (x ∷ xs) h =
+    and (are-different (x .con) c (h x (List·Memᴰ·head refl))) (ok-fresh c xs (λ k t. h k (List·Memᴰ·tail t)))
+
+-- what a Done answer to links says of them, after earlier ones
+pub record LinksOk (r : Ranges) (n : ℕ) (earlier ks : List Link) : Type 0 where
+  pub each : (k : Link) → List·Memᴰ k ks → LinkInRange r n k
+  pub apart : (k : Link) → List·Memᴰ k ks → (j : Link) → List·Memᴰ j earlier → j .con ≢ k .con
+  pub unshared : Unshared ks
+
+pub links-ok : (r : Ranges) (n i : ℕ) (earlier ks : List Link) → linksAnswer r n i earlier ks ≡ Done → LinksOk r n earlier ks
+links-ok r n i earlier [] e =
+    record {
+      each = λ k h. absurd (List·Memᴰ·not-nil h);
+      apart = λ k h j g. absurd (List·Memᴰ·not-nil h);
+      unshared = tt;
+    }
+links-ok r n i earlier (x ∷ xs) e =
+    let p = then-done (linkAnswer r n i earlier x) (linksAnswer r n (suc i) (x ∷ earlier) xs) e in
+    let q = then-done (unless (linkFits r n x) (BadLink (linkPlace i))) (unless (fresh (x .con) earlier) (RepeatedLink (linkPlace i))) (p .0) in
+    let in-range = link-ok r n x (unless-done (linkFits r n x) (BadLink (linkPlace i)) refl (q .0)) in
+    let new = fresh-ok (x .con) earlier (unless-done (fresh (x .con) earlier) (RepeatedLink (linkPlace i)) refl (q .1)) in
+    let rest = links-ok r n (suc i) (x ∷ earlier) xs (p .1) in
+    record {
+      each =
+          λ k h. ⊎-elim
+          (λ (g : k ≡ x). rw g in-range)
+          (λ (t : List·Memᴰ k xs). rest .each k t)
+          (List·Memᴰ·cases-cons h);
+      apart =
+          λ k h j g. ⊎-elim
+          (λ (y : k ≡ x). rw y (new j g))
+          (λ (t : List·Memᴰ k xs). rest .apart k t j (List·Memᴰ·tail g))
+          (List·Memᴰ·cases-cons h);
+      unshared = (λ j t s. rest .apart j t x (List·Memᴰ·head refl) (sym s), rest .unshared);
+    }
+
+pub ok-links : (r : Ranges) (n i : ℕ) (earlier ks : List Link) → LinksOk r n earlier ks → linksAnswer r n i earlier ks ≡ Done
+ok-links r n i earlier [] h = refl
+ok-links r n i earlier (x ∷ xs) h =
+    let in-range = done-unless (linkFits r n x) (BadLink (linkPlace i)) (ok-link r n x (h .each x (List·Memᴰ·head refl))) in
+    let new = done-unless (fresh (x .con) earlier) (RepeatedLink (linkPlace i)) (ok-fresh (x .con) earlier (h .apart x (List·Memᴰ·head refl))) in
+    done-then (linkAnswer r n i earlier x) (linksAnswer r n (suc i) (x ∷ earlier) xs)
+    (done-then (unless (linkFits r n x) (BadLink (linkPlace i))) (unless (fresh (x .con) earlier) (RepeatedLink (linkPlace i))) in-range new)
+    (ok-links r n (suc i) (x ∷ earlier) xs (rest h))
+  where
+    rest : LinksOk r n earlier (x ∷ xs) → LinksOk r n (x ∷ earlier) xs
+    rest g =
+        record {
+          each = λ k t. g .each k (List·Memᴰ·tail t);
+          apart =
+              λ k t j y. ⊎-elim
+              (λ (e : j ≡ x). rw e (λ s. g .unshared .0 k t (sym s)))
+              (λ (u : List·Memᴰ j earlier). g .apart k (List·Memᴰ·tail t) j u)
+              (List·Memᴰ·cases-cons y);
+          unshared = g .unshared .1;
+        }

@@ -1,0 +1,36 @@
+-- `lowers::lower_round` meets its contract: a turn for each link. Assumes nothing.
+use borrow.Author.Needs.{needs}
+use Prim.Native.Nat.{_-_}
+use native.Mathlib.Omega.{arith}
+use Rattle.rules.proofs.Demands.{version1-coherent}
+use Rattle.rules.specs.Plan.{version1}
+use Rattle.plan.specs.Layout.{linkAt}
+use Rattle.lowering.specs.Spread.{lowerEdges, lowerRound}
+use Rattle.lowering.proofs.Code.LoopTurns.{Turns, turns-none, turns-more, turns-all}
+use Rattle.lowering.proofs.Theory.SpreadSteps.{lower-edges-lowers}
+use Rattle.lowering.proofs.Code.LinksAsRead.{link-points}
+use Rattle.spreads.proofs.lowers.lower_round.Statement.{statement}
+use Rattle.spreads.proofs.lowers.lower_round.Tie as tie
+
+abbrev Inv-loop : tie.InvT-loop
+Inv-loop file n m k t₀ i₀ t i = Turns version1 n k (λ i. lowerEdges version1 n (linkAt file m) k (linkAt file m i)) i t₀ t
+
+abbrev μ-loop : tie.MeasureT-loop
+μ-loop file n m k t₀ i₀ t i = k - i
+
+loop-again : tie.Need-loop-again Inv-loop μ-loop
+loop-again c =
+    let s = c .before .before .before .before .before .before in
+    let loop = c .before .before .before .before .loop in
+    let lower-edges = c .before .lower-edges in
+    turns-more (lower-edges-lowers version1 version1-coherent (s .args .n) (linkAt (s .args .file .now) (s .args .m)) (s .args .k) (link-points (s .pre .0))) (loop .inv) (omega arith) (lower-edges .ensures)
+
+pub lower-round-spec : {M : Type 1} → statement M
+unfolding lowerRound
+lower-round-spec =
+    tie.close
+    (tie.spec Inv-loop μ-loop
+    (λ c. turns-none (c .before .pre .1))
+    (λ c κs. (omega arith, c .before .before .before .before .pre .0, c .before .before .loop .inv .lowered .sound))
+    (λ c. search needs) (λ c. search needs) loop-again (λ c. search needs)
+    (λ c. turns-all (c .before .loop .inv) (omega arith)))
