@@ -1,2 +1,3 @@
 pub mod CellMethods
 pub mod StoredCells
+pub mod Common

@@ -3,3 +3,4 @@ pub mod CellTests
 pub mod TestLoops
 pub mod EdgeTests
 pub mod ClosedWhole
+pub mod Common

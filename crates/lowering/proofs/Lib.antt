@@ -2,3 +2,4 @@
 -- Code: from what code reads to those functions; the laws that the walks through the code cite.
 pub mod Theory
 pub mod Code
+pub mod Common

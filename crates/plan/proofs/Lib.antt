@@ -5,3 +5,4 @@ pub mod TestsDecide
 pub mod SoundFile
 pub mod CaseB
 pub mod TestsMade
+pub mod Common

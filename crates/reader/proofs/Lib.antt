@@ -2,3 +2,4 @@
 pub mod Thin
 pub mod Through
 pub mod Planned
+pub mod Common

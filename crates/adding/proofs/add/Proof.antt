@@ -1,11 +1,7 @@
 -- `adding::add` meets its contract: the file's answer with the limit, room, and the rest. Assumes nothing.
-use native.Mathlib.Omega.{arith}
-use mir.Syntax.{w32}
-use mir.Val.{toZ, ofZ}
-use Rattle.whole.proofs.Bits.{back}
+use Rattle.lowering.proofs.Common.{arith, w32, toZ, ofZ, back, needs}
 use Rattle.rules.specs.Plan.{Limit}
 use Rattle.adding.proofs.AddAnswers.{file-refused, file-done, cells-small, strict-short, open-short, scratch-short, lent, weight-back}
-use borrow.Author.Needs.{needs}
 use Rattle.adding.proofs.add.Statement.{statement}
 use Rattle.adding.proofs.add.Tie as tie
 

@@ -1,7 +1,6 @@
 -- `adding::add_to` meets its contract: tables that are not closed, or the sweeps. Assumes nothing.
-use borrow.Author.Tests.{not-true, not-false}
+use Rattle.lowering.proofs.Common.{not-true, not-false, needs}
 use Rattle.adding.proofs.AddAnswers.{are-not}
-use borrow.Author.Needs.{needs}
 use Rattle.adding.proofs.add_to.Statement.{statement}
 use Rattle.adding.proofs.add_to.Tie as tie
 

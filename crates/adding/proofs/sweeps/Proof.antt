@@ -1,10 +1,6 @@
 -- `adding::sweeps` meets its contract: refused, out of reach, or taken. Assumes nothing.
-use mathlib.Core.Path.{_∙_}
-use borrow.Author.Tests.{not-true, not-false}
-use native.Mathlib.Omega.{arith}
-use Rattle.lowering.proofs.Code.LinksAsRead.{few}
+use Rattle.lowering.proofs.Common.{_∙_, not-true, not-false, arith, few, needs}
 use Rattle.adding.proofs.AddAnswers.{start-within, started, refused, out, taken}
-use borrow.Author.Needs.{needs}
 use Rattle.adding.proofs.sweeps.Statement.{statement}
 use Rattle.adding.proofs.sweeps.Tie as tie
 

@@ -1,7 +1,5 @@
 -- `alone` meets its contract: the ranges come first, so that the joins may add. Assumes nothing.
-use borrow.Author.Needs.{needs}
-use Rattle.closed.proofs.CellTests.{refuted, given-by, decides-all}
-use Rattle.closed.proofs.ClosedWhole.{sound-by}
+use Rattle.closed.proofs.Common.{needs, refuted, given-by, decides-all, sound-by}
 use Rattle.closed.proofs.alone.Statement.{statement}
 use Rattle.closed.proofs.alone.Tie as tie
 

@@ -1,9 +1,6 @@
 -- `closed` meets its contract: its four tests together are the paper's sentence. Assumes nothing.
-use borrow.Author.Needs.{needs}
-use Rattle.rules.specs.Plan.{version1}
-use Rattle.rules.specs.Cells.{tableOf}
-use Rattle.closed.proofs.CellTests.{refuted, given-by, decides-all}
-use Rattle.closed.proofs.ClosedWhole.{few, sound-by, closed-by, strict-alone, open-alone, strict-held, open-held}
+use Rattle.closed.proofs.Common.{needs, version1, tableOf, refuted, given-by, decides-all, few, sound-by}
+use Rattle.closed.proofs.ClosedWhole.{closed-by, strict-alone, open-alone, strict-held, open-held}
 use Rattle.closed.proofs.closed.Statement.{statement}
 use Rattle.closed.proofs.closed.Tie as tie
 

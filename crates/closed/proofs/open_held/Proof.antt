@@ -1,8 +1,5 @@
 -- `open_held` meets its contract: two tests, one after the other. Assumes nothing.
-use borrow.Author.Needs.{needs}
-use Rattle.lowering.proofs.Code.ReadyFile.{link-range}
-use Rattle.closed.proofs.CellTests.{refuted, given-by, decides-all}
-use Rattle.closed.proofs.ClosedWhole.{few}
+use Rattle.closed.proofs.Common.{needs, link-range, refuted, given-by, decides-all, few}
 use Rattle.closed.proofs.open_held.Statement.{statement}
 use Rattle.closed.proofs.open_held.Tie as tie
 

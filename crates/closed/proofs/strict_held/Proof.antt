@@ -1,7 +1,6 @@
 -- `strict_held` meets its contract: five tests, one after the other. Assumes nothing.
-use Rattle.lowering.proofs.Code.ReadyFile.{limit-range, link-range}
-use Rattle.closed.proofs.CellTests.{refuted, given-by, decides-all}
-use Rattle.closed.proofs.ClosedWhole.{few}
+use Rattle.closed.proofs.Common.{link-range, refuted, given-by, decides-all, few}
+use Rattle.lowering.proofs.Common.{limit-range}
 use Rattle.closed.proofs.strict_held.Statement.{statement}
 use Rattle.closed.proofs.strict_held.Tie as tie
 

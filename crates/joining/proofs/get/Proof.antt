@@ -1,11 +1,7 @@
--- `tables::get` meets its contract: the cell's index lies within the table. Assumes nothing.
-use borrow.Author.Needs.{needs}
-use native.Mathlib.Omega.{arith}
-use Rattle.whole.proofs.Place.{inside, within, square-le}
+-- `joining::get` meets its contract: the cell's index lies within the table. Assumes nothing.
+use Rattle.lowering.proofs.Common.{needs, arith, inside, within, square-le}
 use Rattle.joining.proofs.get.Statement.{statement}
 use Rattle.joining.proofs.get.Tie as tie
-use Rattle.joining.proofs.get.Reads as reads
-use Rattle.joining.proofs.get.Lts as lts
 
 pub get-spec : {M : Type 1} → statement M
 get-spec =

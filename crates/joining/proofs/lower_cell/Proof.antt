@@ -1,8 +1,5 @@
--- `tables::lower_cell` meets its contract: a cell read, the new one stored if it is smaller, and written. Assumes nothing.
-use borrow.Author.Needs.{needs}
-use Rattle.rules.specs.Plan.{version1}
-use Rattle.cell.specs.Steps.{cell32}
-use Rattle.lowering.proofs.Code.LoopTurns.{lowering-is}
+-- `joining::lower_cell` meets its contract: a cell read, the new one stored if it is smaller, and written. Assumes nothing.
+use Rattle.lowering.proofs.Common.{needs, version1, cell32, lowering-is}
 use Rattle.joining.proofs.lower_cell.Statement.{statement}
 use Rattle.joining.proofs.lower_cell.Tie as tie
 

@@ -1,7 +1,5 @@
--- `tables::put` meets its contract: the cell's index lies within the table. Assumes nothing.
-use borrow.Author.Needs.{needs}
-use native.Mathlib.Omega.{arith}
-use Rattle.whole.proofs.Place.{inside, within, square-le}
+-- `joining::put` meets its contract: the cell's index lies within the table. Assumes nothing.
+use Rattle.lowering.proofs.Common.{needs, arith, inside, within, square-le}
 use Rattle.joining.proofs.put.Statement.{statement}
 use Rattle.joining.proofs.put.Tie as tie
 

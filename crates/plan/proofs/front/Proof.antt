@@ -1,6 +1,6 @@
 -- `front` meets its contract: the header's answer stands, or the limits' counts.
 -- Assumes nothing.
-use borrow.Author.Needs.{needs}
+use Rattle.plan.proofs.Common.{needs}
 use Rattle.plan.proofs.FirstRefusal.{front-stop, front-next}
 use Rattle.plan.proofs.front.Statement.{statement}
 use Rattle.plan.proofs.front.Tie as tie

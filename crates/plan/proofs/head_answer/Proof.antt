@@ -1,6 +1,6 @@
 -- `head_answer` meets its contract: at each `return` the tests that led there say which answer of `headAnswer` it is.
 -- Assumes nothing.
-use borrow.Author.Needs.{needs}
+use Rattle.plan.proofs.Common.{needs}
 use borrow.Author.Tests.{le-leb, lt-leb, eq-eqb, ne-eqb}
 use Rattle.plan.proofs.TestsMade.{failed, passed}
 use Rattle.plan.specs.File.{headAnswer}

@@ -1,6 +1,6 @@
 -- `sound` meets its contract: the answer to header and limits stands, or the links' counts.
 -- Assumes nothing.
-use borrow.Author.Needs.{needs}
+use Rattle.plan.proofs.Common.{needs}
 use Rattle.plan.proofs.FirstRefusal.{file-stop, file-next}
 use Rattle.plan.proofs.sound.Statement.{statement}
 use Rattle.plan.proofs.sound.Tie as tie

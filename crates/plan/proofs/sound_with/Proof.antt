@@ -1,8 +1,6 @@
 -- `sound_with` meets its contract: as `sound`, with Add's limit between; its weight is read back from its bits.
 -- Assumes nothing.
-use borrow.Author.Needs.{needs}
-use mir.Syntax.{w32}
-use mir.ValLaws.{toZ-ofZ}
+use Rattle.plan.proofs.Common.{needs, w32, toZ-ofZ}
 use Rattle.rules.specs.Plan.{Limit}
 use Rattle.plan.proofs.FirstRefusal.{add-stop, add-own, add-next}
 use Rattle.plan.proofs.sound_with.Statement.{statement}

@@ -1,8 +1,5 @@
 -- `check` meets its contract: the file's answer, room, and the closed test, in the paper's order. Assumes nothing.
-use mathlib.Core.Path.{_≡_}
-use borrow.Author.Needs.{needs}
-use Rattle.rules.specs.declared.Answer.the-variants.{Done}
-use Rattle.plan.specs.File.{fileAnswer}
+use Rattle.lowering.proofs.Common.{_≡_, needs, Done, fileAnswer}
 use Rattle.post.proofs.CheckAnswers.{file-refused, file-done, ready, cells-small, strict-short, open-short, are-closed, are-not}
 use Rattle.post.proofs.check.Statement.{statement}
 use Rattle.post.proofs.check.Tie as tie

@@ -1,6 +1,5 @@
 -- `has_row` meets its contract. Assumes nothing.
-use native.Mathlib.Omega.{arith}
-use Rattle.whole.proofs.Place.{square-le}
+use Rattle.lowering.proofs.Common.{arith, square-le}
 use Rattle.post.proofs.RowAnswers.{too-many, else}
 use Rattle.post.proofs.has_row.Statement.{statement}
 use Rattle.post.proofs.has_row.Tie as tie

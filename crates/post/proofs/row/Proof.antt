@@ -1,10 +1,7 @@
 -- `row` meets its contract: the row lies within its table and is the table's own cells. Assumes nothing.
-use borrow.Author.Needs.{needs}
+use Rattle.lowering.proofs.Common.{needs, arith, _≡_, refl, length}
 use native.Mathlib.Nat.{add-sub-cancel-left}
-use native.Mathlib.Omega.{arith}
-use mathlib.Core.Path.{_≡_, refl}
 use mathlib.Core.Bool.{true}
-use lib.ListN.{length}
 use Rattle.plan.proofs.TestsMade.{passed}
 use Rattle.rules.specs.declared.Side.the-variants.{Strict, Open}
 use Rattle.rules.specs.Rows.{hasRow}

@@ -1,23 +1,11 @@
 -- `reader::link_of` meets its contract: the walk of `Through.antt`, at a link. All that the proof knows of `counted` and of `link` is that each meets its contract.
 -- Assumes nothing.
-use mathlib.Core.Path.{_≡_}
-use Prim.Native.Nat.{ℕ}
-use mathlib.Core.List.{[], _∷_}
-use base.Logic.{id⊢}
-use contract.Running.{givenOf, tables, tablesOf}
-use denote.Ref.{now}
+use Rattle.reader.proofs.Common.{_≡_, ℕ, [], _∷_, id⊢, givenOf, tables, tablesOf, now, tripleOf, entered, cited, linkAt, linkOf, Link}
+use Rattle.reader.proofs.Common.{PlanReader, Record, CountedOf, ReadOf, through, #reader·counted}
 use denote.Struct.Laws as LL
-use denote.Triple.Spec.{tripleOf}
-use denote.Triple.Table.{entered, cited}
-use Rattle.plan.specs.Layout.{linkAt}
-use Rattle.plan.specs.Values.{linkOf}
-use Rattle.plan.specs.declared.Link.{Link}
 use Rattle.plan.proofs.Link as S
 use Rattle.plan.proofs.Link.Laws as S′
-use Rattle.reader.specs.declared.PlanReader.{PlanReader}
-use Rattle.reader.proofs.Through.{Record, CountedOf, ReadOf, through}
 use Rattle.reader.proofs.counted.Symbol as counted-def
-use Rattle.reader.proofs.counted.Symbol.{name as #reader·counted}
 use Rattle.reader.proofs.counted.Met as counted-thm
 use Rattle.reader.proofs.link.Symbol as link-def
 use Rattle.reader.proofs.link.Symbol.{name as #reader·link}

@@ -1,7 +1,5 @@
 -- `wide::get` meets its contract: the cell's index lies within the table. Assumes nothing.
-use borrow.Author.Needs.{needs}
-use native.Mathlib.Omega.{arith}
-use Rattle.whole.proofs.Place.{inside, within, square-le}
+use Rattle.lowering.proofs.Common.{needs, arith, inside, within, square-le}
 use Rattle.wide.proofs.get.Statement.{statement}
 use Rattle.wide.proofs.get.Tie as tie
 

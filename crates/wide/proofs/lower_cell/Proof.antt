@@ -1,7 +1,5 @@
 -- `wide::lower_cell` meets its contract: a cell read, the new one stored if it is smaller, and written. Assumes nothing.
-use borrow.Author.Needs.{needs}
-use Rattle.cell.specs.Steps.{adding, cell64}
-use Rattle.lowering.proofs.Code.LoopTurns.{lowering-is}
+use Rattle.lowering.proofs.Common.{needs, adding, cell64, lowering-is}
 use Rattle.wide.proofs.lower_cell.Statement.{statement}
 use Rattle.wide.proofs.lower_cell.Tie as tie
 

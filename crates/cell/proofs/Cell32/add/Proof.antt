@@ -1,6 +1,5 @@
 -- `Cell32::add` meets its contract: a cell that a sweep holds is within the range of sums. Assumes nothing.
-use Rattle.rules.specs.Plan.{version1}
-use Rattle.cell.specs.Steps.{cell32}
+use Rattle.cell.proofs.Common.{version1, cell32}
 use Rattle.cell.proofs.CellMethods.{stored-summed}
 use Rattle.cell.proofs.Cell32.add.Statement.{statement}
 use Rattle.cell.proofs.Cell32.add.Tie as tie

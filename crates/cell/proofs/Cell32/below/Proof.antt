@@ -1,8 +1,5 @@
 -- `Cell32::below` meets its contract: the mark is the largest number of the type. Assumes nothing.
-use mir.Syntax.{w32}
-use mir.Val.{SFits}
-use Rattle.whole.proofs.Bits.{back, fit}
-use Rattle.cell.proofs.CellMethods.{room32, below-flag}
+use Rattle.cell.proofs.Common.{w32, SFits, back, fit, room32, below-flag}
 use Rattle.cell.proofs.Cell32.below.Statement.{statement}
 use Rattle.cell.proofs.Cell32.below.Tie as tie
 

@@ -1,9 +1,5 @@
 -- `Cell32::height` meets its contract: the mark stands highest, and past the test for it the cell is a number. Assumes nothing.
-use borrow.Author.Needs.{needs}
-use native.Mathlib.Omega.{arith}
-use Rattle.rules.specs.Plan.{version1}
-use Rattle.cell.specs.Steps.{cell32}
-use Rattle.cell.proofs.CellMethods.{Number, number, is-mark as mark-read, room32, height-mark, height-fits, height-casts, height-is}
+use Rattle.cell.proofs.Common.{needs, arith, version1, cell32, Number, number, mark-read, room32, height-mark, height-fits, height-casts, height-is}
 use Rattle.cell.proofs.Cell32.height.Statement.{statement}
 use Rattle.cell.proofs.Cell32.height.Tie as tie
 

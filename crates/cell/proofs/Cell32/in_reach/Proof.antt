@@ -1,11 +1,5 @@
 -- `Cell32::in_reach` meets its contract: the mark is in reach, and a number where no test against an end holds. Assumes nothing.
-use borrow.Author.Needs.{needs}
-use mathlib.Core.Path.{_≡_}
-use Rattle.whole.proofs.Bits.{tested}
-use Rattle.rules.specs.Plan.{version1}
-use Rattle.rules.specs.Cells.{num}
-use Rattle.cell.specs.Steps.{cell32}
-use Rattle.cell.proofs.CellMethods.{is-mark, no-mark, reach-mark, reach-above, reach-below, reach-within}
+use Rattle.cell.proofs.Common.{needs, _≡_, tested, version1, num, cell32, is-mark, no-mark, reach-mark, reach-above, reach-below, reach-within}
 use Rattle.cell.proofs.Cell32.in_reach.Statement.{statement}
 use Rattle.cell.proofs.Cell32.in_reach.Tie as tie
 

@@ -1,8 +1,5 @@
 -- `Cell32::is_mark` meets its contract: the bits are those of the mark where the cell is it. Assumes nothing.
-use mir.Syntax.{w32}
-use Rattle.whole.proofs.Bits.{fit}
-use Rattle.rules.specs.Plan.{version1}
-use Rattle.cell.proofs.CellMethods.{room32, mark-flag}
+use Rattle.cell.proofs.Common.{w32, fit, version1, room32, mark-flag}
 use Rattle.cell.proofs.Cell32.is_mark.Statement.{statement}
 use Rattle.cell.proofs.Cell32.is_mark.Tie as tie
 

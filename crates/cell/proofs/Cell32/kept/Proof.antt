@@ -1,9 +1,5 @@
 -- `Cell32::kept` meets its contract, by the two tests against the ends of the reach. Assumes nothing.
-use borrow.Author.Needs.{needs}
-use mathlib.Core.Path.{sym, _∙_}
-use Rattle.whole.proofs.Bits.{tested}
-use Rattle.rules.specs.Plan.{version1}
-use Rattle.cell.proofs.CellMethods.{room32, clamp-above, clamp-below, clamp-within}
+use Rattle.cell.proofs.Common.{needs, sym, _∙_, tested, version1, room32, clamp-above, clamp-below, clamp-within}
 use Rattle.cell.proofs.Cell32.kept.Statement.{statement}
 use Rattle.cell.proofs.Cell32.kept.Tie as tie
 

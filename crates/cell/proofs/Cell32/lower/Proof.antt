@@ -1,9 +1,5 @@
 -- `Cell32::lower` meets its contract: the mark stays, and past the test for it the cell is a number. Assumes nothing.
-use borrow.Author.Needs.{needs}
-use mathlib.Core.Path.{_∙_}
-use Rattle.whole.proofs.Bits.{tested}
-use Rattle.rules.specs.Plan.{version1}
-use Rattle.cell.proofs.CellMethods.{Number, number, is-mark, room32, lower-mark, lower-fits, lower-yes, lower-no}
+use Rattle.cell.proofs.Common.{needs, _∙_, tested, version1, Number, number, is-mark, room32, lower-mark, lower-fits, lower-yes, lower-no}
 use Rattle.cell.proofs.Cell32.lower.Statement.{statement}
 use Rattle.cell.proofs.Cell32.lower.Tie as tie
 

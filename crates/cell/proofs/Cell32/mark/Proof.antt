@@ -1,6 +1,5 @@
 -- `Cell32::mark` meets its contract: the number is the mark of the ranges. Assumes nothing.
-use mathlib.Core.Path.{refl}
-use Rattle.rules.specs.Plan.{version1}
+use Rattle.cell.proofs.Common.{refl, version1}
 use Rattle.cell.proofs.Cell32.mark.Statement.{statement}
 use Rattle.cell.proofs.Cell32.mark.Tie as tie
 

@@ -1,7 +1,5 @@
 -- `Cell32::negated` meets its contract: the bits of the field and of the result are read back. Assumes nothing.
-use mir.Syntax.{w32}
-use lib.IntN.{+ℤ-idl}
-use Rattle.whole.proofs.Bits.{back, fit, negation-is}
+use Rattle.cell.proofs.Common.{w32, +ℤ-idl, back, fit, negation-is}
 use Rattle.cell.proofs.Cell32.negated.Statement.{statement}
 use Rattle.cell.proofs.Cell32.negated.Tie as tie
 

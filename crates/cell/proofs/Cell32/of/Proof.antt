@@ -1,8 +1,5 @@
 -- `Cell32::of` meets its contract: a weight of the ranges fits. Assumes nothing.
-use native.Mathlib.Omega.{arith}
-use mir.Syntax.{w32}
-use Rattle.whole.proofs.Bits.{cast-pos, signed}
-use Rattle.rules.specs.Plan.{version1}
+use Rattle.cell.proofs.Common.{arith, w32, cast-pos, signed, version1}
 use Rattle.cell.proofs.Cell32.of.Statement.{statement}
 use Rattle.cell.proofs.Cell32.of.Tie as tie
 

@@ -1,8 +1,6 @@
 -- `Cell32::onward` meets its contract: past the two tests for the mark both cells are numbers, and Join is their sum, the first of them one already. Assumes nothing.
-use borrow.Author.Needs.{needs}
-use Rattle.rules.specs.Plan.{version1}
-use Rattle.cell.specs.Steps.{cell32}
-use Rattle.cell.proofs.CellMethods.{Number, Sum, number, sum, is-mark, room32, join-left, join-right, join-far}
+use Rattle.cell.proofs.Common.{needs, version1, cell32, Number, number, is-mark, room32, join-left, join-right}
+use Rattle.cell.proofs.CellMethods.{Sum, sum, join-far}
 use Rattle.cell.proofs.Cell32.onward.Statement.{statement}
 use Rattle.cell.proofs.Cell32.onward.Tie as tie
 

@@ -1,7 +1,5 @@
 -- `Cell32::upper` meets its contract: the mark stays, and past the test for it the cell is a number. Assumes nothing.
-use borrow.Author.Needs.{needs}
-use Rattle.rules.specs.Plan.{version1}
-use Rattle.cell.proofs.CellMethods.{Number, number, is-mark, room32, upper-mark, upper-fits, negation-fits, upper-is}
+use Rattle.cell.proofs.Common.{needs, version1, Number, number, is-mark, room32, upper-mark, upper-fits, negation-fits, upper-is}
 use Rattle.cell.proofs.Cell32.upper.Statement.{statement}
 use Rattle.cell.proofs.Cell32.upper.Tie as tie
 

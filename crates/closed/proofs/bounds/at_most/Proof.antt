@@ -1,8 +1,5 @@
 -- `bounds::at_most` meets its contract. Assumes nothing.
-use borrow.Author.Needs.{needs}
-use Rattle.rules.specs.Cells.{Cell, _≤ᶜ_}
-use Rattle.cell.specs.Steps.{cell32}
-use Rattle.closed.proofs.CellTests.{decides-cell}
+use Rattle.closed.proofs.Common.{needs, Cell, _≤ᶜ_, cell32, decides-cell}
 use Rattle.closed.proofs.bounds.at_most.Statement.{statement}
 use Rattle.closed.proofs.bounds.at_most.Tie as tie
 

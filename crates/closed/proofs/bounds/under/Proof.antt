@@ -1,6 +1,5 @@
 -- `bounds::under` meets its contract. Assumes nothing.
-use borrow.Author.Needs.{needs}
-use Rattle.cell.specs.Steps.{cell32}
+use Rattle.closed.proofs.Common.{needs, cell32}
 use Rattle.closed.proofs.CellTests.{exceeds, exceeds-not}
 use Rattle.closed.proofs.bounds.under.Statement.{statement}
 use Rattle.closed.proofs.bounds.under.Tie as tie

@@ -1,8 +1,6 @@
 -- `given::limit_held` meets its contract. Assumes nothing.
-use borrow.Author.Needs.{needs}
-use Rattle.rules.specs.Plan.{version1}
-use Rattle.rules.specs.Cells.{tableOf}
-use Rattle.plan.specs.Values.{limitOf}
+use Rattle.closed.proofs.Common.{needs, version1, tableOf}
+use Rattle.lowering.proofs.Common.{limitOf}
 use Rattle.closed.proofs.EdgeTests.{decides-weight}
 use Rattle.closed.proofs.given.limit_held.Statement.{statement}
 use Rattle.closed.proofs.given.limit_held.Tie as tie

@@ -1,14 +1,8 @@
 -- `given::limits_held` meets its contract: a turn for each limit. Assumes nothing.
-use mathlib.Core.Path.{subst⁻¹}
-use borrow.Author.Needs.{needs}
-use Prim.Native.Nat.{_-_}
-use native.Mathlib.Omega.{arith}
-use Rattle.rules.specs.Plan.{version1, LimitInRange}
-use Rattle.rules.specs.Cells.{tableOf}
-use Rattle.plan.specs.Layout.{limitAt}
+use Rattle.closed.proofs.Common.{subst⁻¹, needs, _-_, arith, version1, tableOf, decides-same, Passed, none-yet, one-more, one-failed, all-passed}
+use Rattle.lowering.proofs.Common.{limitAt}
+use Rattle.rules.specs.Plan.{LimitInRange}
 use Rattle.closed.specs.Parts.{LimitHeld}
-use Rattle.closed.proofs.CellTests.{decides-same}
-use Rattle.closed.proofs.TestLoops.{Passed, none-yet, one-more, one-failed, all-passed}
 use Rattle.closed.proofs.given.limits_held.Statement.{statement}
 use Rattle.closed.proofs.given.limits_held.Tie as tie
 

@@ -1,11 +1,7 @@
 -- `given::link_held` meets its contract: the longest edge, then the shortest. Assumes nothing.
-use mathlib.Core.Path.{_∙_, ap}
-use borrow.Author.Needs.{needs}
-use lib.IntN.{pos, negℤ}
-use Rattle.rules.specs.Plan.{version1}
-use Rattle.rules.specs.Cells.{tableOf}
-use Rattle.plan.specs.Values.{linkOf}
-use Rattle.closed.proofs.EdgeTests.{decides-number, span-small, shortest-fits, shortest-small, longest-fails, shortest-decides}
+use Rattle.closed.proofs.Common.{_∙_, ap, needs, pos, version1, tableOf, linkOf, decides-number, span-small}
+use lib.IntN.{negℤ}
+use Rattle.closed.proofs.EdgeTests.{shortest-fits, shortest-small, longest-fails, shortest-decides}
 use Rattle.closed.proofs.given.link_held.Statement.{statement}
 use Rattle.closed.proofs.given.link_held.Tie as tie
 

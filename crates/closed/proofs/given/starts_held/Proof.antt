@@ -1,11 +1,5 @@
 -- `given::starts_held` meets its contract: a turn for each point. Assumes nothing.
-use borrow.Author.Needs.{needs}
-use Prim.Native.Nat.{_-_}
-use native.Mathlib.Omega.{arith}
-use lib.IntN.{pos}
-use Rattle.rules.specs.Plan.{version1}
-use Rattle.rules.specs.Cells.{num, _≤ᶜ_, tableOf}
-use Rattle.closed.proofs.TestLoops.{Passed, none-yet, one-more, one-failed, all-passed}
+use Rattle.closed.proofs.Common.{needs, _-_, arith, pos, version1, num, _≤ᶜ_, tableOf, Passed, none-yet, one-more, one-failed, all-passed}
 use Rattle.closed.proofs.given.starts_held.Statement.{statement}
 use Rattle.closed.proofs.given.starts_held.Tie as tie
 

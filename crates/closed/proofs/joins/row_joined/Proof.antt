@@ -1,14 +1,10 @@
 -- `joins::row_joined` meets its contract: nothing is asked of a row with no path to the middle, else a turn for each cell. Assumes nothing.
-use mathlib.Core.Path.{sym, _∙_}
+use Rattle.closed.proofs.Common.{_∙_, needs, _-_, arith, version1, _≤ᶜ_, tableOf, read-stored}
+use Rattle.lowering.proofs.Common.{sym, read-cell}
 use mathlib.Core.Logic.{⊎-elim}
-use borrow.Author.Needs.{needs}
-use Prim.Native.Nat.{_-_}
-use native.Mathlib.Omega.{arith}
-use Rattle.rules.specs.Plan.{version1}
-use Rattle.rules.specs.Cells.{_+ᶜ_, _≤ᶜ_, tableOf}
+use Rattle.rules.specs.Cells.{_+ᶜ_}
 use Rattle.cell.specs.Steps.{Decides}
 use Rattle.cell.proofs.CellMethods.{is-mark, decided-yes}
-use Rattle.lowering.proofs.Code.LoopTurns.{read-stored, read-cell}
 use Rattle.closed.proofs.CellTests.{row-at-mark, decides-sum}
 use Rattle.closed.proofs.TestLoops.{Tried, none-tried, tried-more, tried-failed, all-tried}
 use Rattle.closed.proofs.joins.row_joined.Statement.{statement}

@@ -1,15 +1,7 @@
 -- `lower::link_lowered` meets its contract: a turn for each other link. Assumes nothing.
-use mathlib.Core.Path.{subst⁻¹}
-use borrow.Author.Needs.{needs}
-use Prim.Native.Nat.{_-_}
-use native.Mathlib.Omega.{arith}
-use Rattle.rules.specs.Plan.{version1, LinkInRange}
-use Rattle.rules.specs.Cells.{tableOf}
-use Rattle.plan.specs.Layout.{linkAt}
-use Rattle.plan.specs.Values.{linkOf}
+use Rattle.closed.proofs.Common.{subst⁻¹, needs, _-_, arith, version1, LinkInRange, tableOf, linkAt, linkOf, decides-same, Passed, none-yet}
+use Rattle.closed.proofs.Common.{one-more, one-failed, all-passed}
 use Rattle.closed.specs.Parts.{PairLowered}
-use Rattle.closed.proofs.CellTests.{decides-same}
-use Rattle.closed.proofs.TestLoops.{Passed, none-yet, one-more, one-failed, all-passed}
 use Rattle.closed.proofs.lower.link_lowered.Statement.{statement}
 use Rattle.closed.proofs.lower.link_lowered.Tie as tie
 

@@ -1,10 +1,5 @@
 -- `lower::pair_lowered` meets its contract: nothing is asked of a link and itself. Assumes nothing.
-use borrow.Author.Needs.{needs}
-use native.Mathlib.Omega.{arith}
-use Rattle.rules.specs.Plan.{version1}
-use Rattle.rules.specs.Cells.{tableOf}
-use Rattle.plan.specs.Values.{linkOf}
-use Rattle.lowering.proofs.Code.LoopTurns.{read-stored}
+use Rattle.closed.proofs.Common.{needs, arith, version1, tableOf, linkOf, read-stored}
 use Rattle.closed.proofs.EdgeTests.{lower-itself, lower-decides}
 use Rattle.closed.proofs.lower.pair_lowered.Statement.{statement}
 use Rattle.closed.proofs.lower.pair_lowered.Tie as tie

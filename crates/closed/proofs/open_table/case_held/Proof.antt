@@ -1,10 +1,5 @@
 -- `open_table::case_held` meets its contract. Assumes nothing.
-use borrow.Author.Needs.{needs}
-use native.Mathlib.Omega.{arith}
-use lib.IntN.{pos}
-use Rattle.rules.specs.Plan.{version1}
-use Rattle.rules.specs.Cells.{tableOf}
-use Rattle.closed.proofs.EdgeTests.{decides-number, span-small}
+use Rattle.closed.proofs.Common.{needs, arith, pos, version1, tableOf, decides-number, span-small}
 use Rattle.closed.proofs.open_table.case_held.Statement.{statement}
 use Rattle.closed.proofs.open_table.case_held.Tie as tie
 

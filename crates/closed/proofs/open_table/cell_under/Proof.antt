@@ -1,8 +1,5 @@
 -- `open_table::cell_under` meets its contract. Assumes nothing.
-use borrow.Author.Needs.{needs}
-use Rattle.rules.specs.Plan.{version1}
-use Rattle.rules.specs.Cells.{Cell, _≤ᶜ_, tableOf}
-use Rattle.closed.proofs.CellTests.{decides-cell}
+use Rattle.closed.proofs.Common.{needs, version1, Cell, _≤ᶜ_, tableOf, decides-cell}
 use Rattle.closed.proofs.open_table.cell_under.Statement.{statement}
 use Rattle.closed.proofs.open_table.cell_under.Tie as tie
 

@@ -1,10 +1,5 @@
 -- `open_table::row_under` meets its contract: a turn for each cell of the row. Assumes nothing.
-use borrow.Author.Needs.{needs}
-use Prim.Native.Nat.{_-_}
-use native.Mathlib.Omega.{arith}
-use Rattle.rules.specs.Plan.{version1}
-use Rattle.rules.specs.Cells.{_≤ᶜ_, tableOf}
-use Rattle.closed.proofs.TestLoops.{Passed, none-yet, one-more, one-failed, all-passed}
+use Rattle.closed.proofs.Common.{needs, _-_, arith, version1, _≤ᶜ_, tableOf, Passed, none-yet, one-more, one-failed, all-passed}
 use Rattle.closed.proofs.open_table.row_under.Statement.{statement}
 use Rattle.closed.proofs.open_table.row_under.Tie as tie
 

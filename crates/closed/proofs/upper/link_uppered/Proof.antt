@@ -1,12 +1,6 @@
 -- `upper::link_uppered` meets its contract: a turn for each point. Assumes nothing.
-use borrow.Author.Needs.{needs}
-use Prim.Native.Nat.{_-_}
-use native.Mathlib.Omega.{arith}
-use Rattle.rules.specs.Plan.{version1}
-use Rattle.rules.specs.Cells.{tableOf}
-use Rattle.plan.specs.Values.{linkOf}
+use Rattle.closed.proofs.Common.{needs, _-_, arith, version1, tableOf, linkOf, Passed, none-yet, one-more, one-failed, all-passed}
 use Rattle.closed.specs.Parts.{PointUppered}
-use Rattle.closed.proofs.TestLoops.{Passed, none-yet, one-more, one-failed, all-passed}
 use Rattle.closed.proofs.upper.link_uppered.Statement.{statement}
 use Rattle.closed.proofs.upper.link_uppered.Tie as tie
 

@@ -1,9 +1,5 @@
 -- `upper::point_uppered` meets its contract. Assumes nothing.
-use borrow.Author.Needs.{needs}
-use native.Mathlib.Omega.{arith}
-use Rattle.rules.specs.Plan.{version1}
-use Rattle.plan.specs.Values.{linkOf}
-use Rattle.lowering.proofs.Code.LoopTurns.{read-stored}
+use Rattle.closed.proofs.Common.{needs, arith, version1, linkOf, read-stored}
 use Rattle.closed.proofs.EdgeTests.{upper-decides}
 use Rattle.closed.proofs.upper.point_uppered.Statement.{statement}
 use Rattle.closed.proofs.upper.point_uppered.Tie as tie

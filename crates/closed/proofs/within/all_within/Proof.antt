@@ -1,11 +1,6 @@
 -- `within::all_within` meets its contract: a turn for each row. Assumes nothing.
-use borrow.Author.Needs.{needs}
-use Prim.Native.Nat.{_-_}
-use native.Mathlib.Omega.{arith}
-use Rattle.rules.specs.Plan.{version1}
-use Rattle.rules.specs.Cells.{tableOf}
+use Rattle.closed.proofs.Common.{needs, _-_, arith, version1, tableOf, Passed, none-yet, one-more, one-failed, all-passed}
 use Rattle.closed.specs.Parts.{RowWithin}
-use Rattle.closed.proofs.TestLoops.{Passed, none-yet, one-more, one-failed, all-passed}
 use Rattle.closed.proofs.within.all_within.Statement.{statement}
 use Rattle.closed.proofs.within.all_within.Tie as tie
 

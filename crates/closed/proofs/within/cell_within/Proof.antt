@@ -1,8 +1,5 @@
 -- `within::cell_within` meets its contract. Assumes nothing.
-use borrow.Author.Needs.{needs}
-use Rattle.rules.specs.Plan.{version1}
-use Rattle.rules.specs.Cells.{Within}
-use Rattle.closed.proofs.CellTests.{decides-cell}
+use Rattle.closed.proofs.Common.{needs, version1, Within, decides-cell}
 use Rattle.closed.proofs.within.cell_within.Statement.{statement}
 use Rattle.closed.proofs.within.cell_within.Tie as tie
 

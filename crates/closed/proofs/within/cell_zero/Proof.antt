@@ -1,11 +1,7 @@
 -- `within::cell_zero` meets its contract: neither of the cell and 0 exceeds the other. Assumes nothing.
-use mathlib.Core.Path.{_≡_, _∙_, ap}
-use borrow.Author.Needs.{needs}
-use lib.IntN.{pos}
+use Rattle.closed.proofs.Common.{_≡_, _∙_, ap, needs, pos, Cell, num, cell32, decides-cell}
 use Rattle.whole.proofs.Order.{ints}
-use Rattle.rules.specs.Cells.{Cell, num}
-use Rattle.cell.specs.Steps.{cell32}
-use Rattle.closed.proofs.CellTests.{decides-cell, weight-cell, not-same, same}
+use Rattle.closed.proofs.CellTests.{weight-cell, not-same, same}
 use Rattle.closed.proofs.within.cell_zero.Statement.{statement}
 use Rattle.closed.proofs.within.cell_zero.Tie as tie
 

@@ -1,12 +1,5 @@
 -- `within::diagonal` meets its contract: a turn for each cell of the diagonal. Assumes nothing.
-use borrow.Author.Needs.{needs}
-use Prim.Native.Nat.{_-_}
-use native.Mathlib.Omega.{arith}
-use mathlib.Core.Path.{_≡_}
-use lib.IntN.{pos}
-use Rattle.rules.specs.Plan.{version1}
-use Rattle.rules.specs.Cells.{num, tableOf}
-use Rattle.closed.proofs.TestLoops.{Passed, none-yet, one-more, one-failed, all-passed}
+use Rattle.closed.proofs.Common.{needs, _-_, arith, _≡_, pos, version1, num, tableOf, Passed, none-yet, one-more, one-failed, all-passed}
 use Rattle.closed.proofs.within.diagonal.Statement.{statement}
 use Rattle.closed.proofs.within.diagonal.Tie as tie
 

@@ -1,10 +1,5 @@
 -- `within::row_within` meets its contract: a turn for each cell of the row. Assumes nothing.
-use borrow.Author.Needs.{needs}
-use Prim.Native.Nat.{_-_}
-use native.Mathlib.Omega.{arith}
-use Rattle.rules.specs.Plan.{version1}
-use Rattle.rules.specs.Cells.{Within, tableOf}
-use Rattle.closed.proofs.TestLoops.{Passed, none-yet, one-more, one-failed, all-passed}
+use Rattle.closed.proofs.Common.{needs, _-_, arith, version1, Within, tableOf, Passed, none-yet, one-more, one-failed, all-passed}
 use Rattle.closed.proofs.within.row_within.Statement.{statement}
 use Rattle.closed.proofs.within.row_within.Tie as tie
 

@@ -1,16 +1,6 @@
 -- `starting::diagonal_all` meets its contract: a turn for each point. Assumes nothing.
-use borrow.Author.Needs.{needs}
-use Prim.Native.Nat.{_-_}
-use native.Mathlib.Omega.{arith}
-use Rattle.rules.specs.Plan.{version1}
-use Rattle.rules.proofs.Demands.{version1-coherent}
-use Rattle.rules.specs.Cells.{num}
-use lib.IntN.{pos}
-use Rattle.lowering.specs.Sweep.{lowerCell, diagonalAll}
-use Rattle.lowering.proofs.Theory.SweepSteps.{diagonal-lowers}
-use Rattle.lowering.proofs.Code.LinksAsRead.{lowering-by}
-use Rattle.lowering.proofs.Code.FirstAsRead.{span-cell}
-use Rattle.lowering.proofs.Code.LoopTurns.{Turns, turns-none, turns-more, turns-all}
+use Rattle.lowering.proofs.Common.{needs, _-_, arith, version1, version1-coherent, num, pos, lowerCell, diagonalAll, diagonal-lowers, lowering-by}
+use Rattle.lowering.proofs.Common.{span-cell, Turns, turns-none, turns-more, turns-all}
 use Rattle.first.proofs.starting.diagonal_all.Statement.{statement}
 use Rattle.first.proofs.starting.diagonal_all.Tie as tie
 

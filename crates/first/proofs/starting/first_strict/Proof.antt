@@ -1,12 +1,6 @@
 -- `starting::first_strict` meets its contract: the mark everywhere, then the diagonal, limits, start edges and links. Assumes nothing.
-use borrow.Author.Needs.{needs}
-use mathlib.Core.Path.{ap, _∙_}
-use native.Mathlib.Omega.{arith}
-use Rattle.whole.proofs.Place.{square-le}
-use Rattle.rules.specs.Plan.{version1}
-use Rattle.plan.specs.Layout.{limitAt, linkAt}
-use Rattle.lowering.specs.Sweep.{diagonalAll, limitAll, startAll, linkAll, firstStrict}
-use Rattle.lowering.proofs.Code.LinksAsRead.{few}
+use Rattle.lowering.proofs.Common.{needs, ap, _∙_, arith, square-le, version1, limitAt, linkAt, diagonalAll, limitAll, startAll, linkAll, few}
+use Rattle.lowering.specs.Sweep.{firstStrict}
 use Rattle.lowering.proofs.Code.StillStored.{sound-marks, sound-diagonal, sound-limits, sound-starts}
 use Rattle.first.proofs.starting.first_strict.Statement.{statement}
 use Rattle.first.proofs.starting.first_strict.Tie as tie

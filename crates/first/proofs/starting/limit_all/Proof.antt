@@ -1,16 +1,8 @@
 -- `starting::limit_all` meets its contract: a turn for each limit. Assumes nothing.
-use borrow.Author.Needs.{needs}
-use Prim.Native.Nat.{_-_}
-use native.Mathlib.Omega.{arith}
-use Rattle.rules.specs.Plan.{version1}
-use Rattle.rules.proofs.Demands.{version1-coherent}
-use Rattle.plan.specs.Layout.{limitAt}
-use Rattle.lowering.specs.Sweep.{limitCell, limitAll}
+use Rattle.lowering.proofs.Common.{needs, _-_, arith, version1, version1-coherent, limitAt, limitCell, limitAll, limit-range, few, at-read, Turns}
+use Rattle.lowering.proofs.Common.{turns-none, turns-more, turns-all}
 use Rattle.lowering.proofs.Theory.SweepSteps.{limit-lowers}
-use Rattle.lowering.proofs.Code.ReadyFile.{limit-range}
-use Rattle.lowering.proofs.Code.LinksAsRead.{few, at-read}
 use Rattle.lowering.proofs.Code.FirstAsRead.{limit-read}
-use Rattle.lowering.proofs.Code.LoopTurns.{Turns, turns-none, turns-more, turns-all}
 use Rattle.first.proofs.starting.limit_all.Statement.{statement}
 use Rattle.first.proofs.starting.limit_all.Tie as tie
 

@@ -1,10 +1,5 @@
 -- `starting::limit_cell` meets its contract: a weight in range is a number of a cell. Assumes nothing.
-use borrow.Author.Needs.{needs}
-use mir.Syntax.{w32}
-use mir.Val.{toZ, ofZ}
-use Rattle.rules.specs.Plan.{version1}
-use Rattle.lowering.specs.Sweep.{limitCell}
-use Rattle.lowering.proofs.Code.LinksAsRead.{lowering-by}
+use Rattle.lowering.proofs.Common.{needs, w32, toZ, ofZ, version1, limitCell, lowering-by}
 use Rattle.lowering.proofs.Code.FirstAsRead.{weight-cell}
 use Rattle.first.proofs.starting.limit_cell.Statement.{statement}
 use Rattle.first.proofs.starting.limit_cell.Tie as tie

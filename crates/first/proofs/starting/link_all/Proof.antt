@@ -1,14 +1,8 @@
 -- `starting::link_all` meets its contract: a turn for each link. Assumes nothing.
-use borrow.Author.Needs.{needs}
-use Prim.Native.Nat.{_-_}
-use native.Mathlib.Omega.{arith}
-use Rattle.rules.specs.Plan.{version1}
-use Rattle.rules.proofs.Demands.{version1-coherent}
-use Rattle.plan.specs.Layout.{linkAt}
-use Rattle.lowering.specs.Sweep.{linkEdges, linkAll}
+use Rattle.lowering.proofs.Common.{needs, _-_, arith, version1, version1-coherent, linkAt, linkAll, few, link-read, link-points, at-read, Turns}
+use Rattle.lowering.proofs.Common.{turns-none, turns-more, turns-all}
+use Rattle.lowering.specs.Sweep.{linkEdges}
 use Rattle.lowering.proofs.Theory.SweepSteps.{edges-lowers}
-use Rattle.lowering.proofs.Code.LinksAsRead.{few, link-read, link-points, at-read}
-use Rattle.lowering.proofs.Code.LoopTurns.{Turns, turns-none, turns-more, turns-all}
 use Rattle.first.proofs.starting.link_all.Statement.{statement}
 use Rattle.first.proofs.starting.link_all.Tie as tie
 

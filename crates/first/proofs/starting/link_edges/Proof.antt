@@ -1,9 +1,6 @@
 -- `starting::link_edges` meets its contract: two cells lowered, to the longest span and to minus the shortest. Assumes nothing.
-use borrow.Author.Needs.{needs}
-use native.Mathlib.Omega.{arith}
-use Rattle.rules.specs.Plan.{version1}
-use Rattle.plan.specs.Values.{linkOf}
-use Rattle.lowering.proofs.Code.FirstAsRead.{span-cell, minus-fits, minus-cell, edges-are}
+use Rattle.lowering.proofs.Common.{needs, arith, version1, linkOf, span-cell}
+use Rattle.lowering.proofs.Code.FirstAsRead.{minus-fits, minus-cell, edges-are}
 use Rattle.first.proofs.starting.link_edges.Statement.{statement}
 use Rattle.first.proofs.starting.link_edges.Tie as tie
 

@@ -1,14 +1,5 @@
 -- `starting::mark_all` meets its contract: a turn for each cell. Assumes nothing.
-use borrow.Author.Needs.{needs}
-use mathlib.Core.Path.{_≡_}
-use Prim.Native.Nat.{_-_}
-use lib.IntN.{pos}
-use native.Mathlib.Omega.{arith}
-use mir.Syntax.{w32}
-use mir.Val.{toZ, ofZ}
-use Rattle.rules.specs.Plan.{version1}
-use Rattle.cell.proofs.StoredCells.{number-of}
-use Rattle.lowering.proofs.Code.FirstAsRead.{Marking, marking-none, marking-more, marking-all}
+use Rattle.lowering.proofs.Common.{needs, _≡_, _-_, pos, arith, w32, toZ, ofZ, version1, number-of, Marking, marking-none, marking-more, marking-all}
 use Rattle.first.proofs.starting.mark_all.Statement.{statement}
 use Rattle.first.proofs.starting.mark_all.Tie as tie
 

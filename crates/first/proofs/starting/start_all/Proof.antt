@@ -1,16 +1,7 @@
 -- `starting::start_all` meets its contract: a turn for each point. Assumes nothing.
-use borrow.Author.Needs.{needs}
-use Prim.Native.Nat.{_-_}
-use native.Mathlib.Omega.{arith}
-use Rattle.rules.specs.Plan.{version1}
-use Rattle.rules.proofs.Demands.{version1-coherent}
-use Rattle.rules.specs.Cells.{num}
-use lib.IntN.{pos}
-use Rattle.lowering.specs.Sweep.{lowerCell, startAll}
+use Rattle.lowering.proofs.Common.{needs, _-_, arith, version1, version1-coherent, num, pos, lowerCell, startAll, lowering-by, span-cell, Turns}
+use Rattle.lowering.proofs.Common.{turns-none, turns-more, turns-all}
 use Rattle.lowering.proofs.Theory.SweepSteps.{start-lowers}
-use Rattle.lowering.proofs.Code.LinksAsRead.{lowering-by}
-use Rattle.lowering.proofs.Code.FirstAsRead.{span-cell}
-use Rattle.lowering.proofs.Code.LoopTurns.{Turns, turns-none, turns-more, turns-all}
 use Rattle.first.proofs.starting.start_all.Statement.{statement}
 use Rattle.first.proofs.starting.start_all.Tie as tie
 

@@ -1,12 +1,5 @@
 -- `joins::join_all` meets its contract: a turn for each middle. Assumes nothing.
-use Prim.Native.Nat.{_-_}
-use native.Mathlib.Omega.{arith}
-use Rattle.rules.specs.Plan.{version1}
-use Rattle.rules.proofs.Demands.{version1-coherent}
-use Rattle.lowering.specs.Sweep.{joinMiddle, joinAll}
-use Rattle.lowering.proofs.Code.LoopTurns.{Turns, turns-none, turns-more, turns-all}
-use Rattle.lowering.proofs.Theory.SweepSteps.{middle-lowers}
-use borrow.Author.Needs.{needs}
+use Rattle.lowering.proofs.Common.{_-_, arith, version1, version1-coherent, joinMiddle, joinAll, Turns, turns-none, turns-more, turns-all, middle-lowers, needs}
 use Rattle.joining.proofs.joins.join_all.Statement.{statement}
 use Rattle.joining.proofs.joins.join_all.Tie as tie
 

@@ -1,11 +1,5 @@
 -- `joins::join_middle` meets its contract: the rows before the middle, its own, and those after it. Assumes nothing.
-use borrow.Author.Needs.{needs}
-use native.Mathlib.Omega.{arith}
-use Rattle.rules.specs.Plan.{version1}
-use Rattle.rules.proofs.Demands.{version1-coherent}
-use Rattle.lowering.specs.Sweep.{joinMiddle}
-use Rattle.lowering.proofs.Code.LoopTurns.{before-sound, here-sound, and-after}
-use Rattle.lowering.proofs.Theory.SweepSteps.{row-lowers}
+use Rattle.lowering.proofs.Common.{needs, arith, version1, version1-coherent, joinMiddle, before-sound, here-sound, and-after, row-lowers}
 use Rattle.joining.proofs.joins.join_middle.Statement.{statement}
 use Rattle.joining.proofs.joins.join_middle.Tie as tie
 

@@ -1,11 +1,6 @@
 -- `joins::join_row` meets its contract: a row whose cell to the middle is the mark stays, and else it is taken by that cell. Assumes nothing.
-use borrow.Author.Needs.{needs}
-use mathlib.Core.Path.{sym, _∙_}
-use Rattle.rules.specs.Plan.{version1}
-use Rattle.cell.proofs.CellMethods.{is-mark as mark-read, stored-summed}
-use Rattle.cell.specs.Steps.{cell32}
-use Rattle.lowering.specs.Spread.{rowBy}
-use Rattle.lowering.proofs.Code.LoopTurns.{row-at-mark, read-stored, read-cell, join-row-is}
+use Rattle.lowering.proofs.Common.{needs, sym, _∙_, version1, mark-read, cell32, rowBy, row-at-mark, read-stored, read-cell, join-row-is}
+use Rattle.cell.proofs.CellMethods.{stored-summed}
 use Rattle.joining.proofs.joins.join_row.Statement.{statement}
 use Rattle.joining.proofs.joins.join_row.Tie as tie
 

@@ -1,12 +1,5 @@
 -- `joins::join_rows` meets its contract: a turn for each of the rows. Assumes nothing.
-use borrow.Author.Needs.{needs}
-use Prim.Native.Nat.{_-_}
-use native.Mathlib.Omega.{arith}
-use Rattle.rules.specs.Plan.{version1}
-use Rattle.rules.proofs.Demands.{version1-coherent}
-use Rattle.lowering.specs.Sweep.{joinRow}
-use Rattle.lowering.proofs.Code.LoopTurns.{Stretch, stretch-none, stretch-more, stretch-all}
-use Rattle.lowering.proofs.Theory.SweepSteps.{row-lowers}
+use Rattle.lowering.proofs.Common.{needs, _-_, arith, version1, version1-coherent, joinRow, Stretch, stretch-none, stretch-more, stretch-all, row-lowers}
 use Rattle.joining.proofs.joins.join_rows.Statement.{statement}
 use Rattle.joining.proofs.joins.join_rows.Tie as tie
 

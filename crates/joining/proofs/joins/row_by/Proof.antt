@@ -1,14 +1,6 @@
 -- `joins::row_by` meets its contract: a turn for each cell of the row. Assumes nothing.
-use borrow.Author.Needs.{needs}
-use Prim.Native.Nat.{_-_}
-use native.Mathlib.Omega.{arith}
-use Rattle.rules.proofs.Demands.{version1-coherent}
-use Rattle.rules.specs.Plan.{version1}
-use Rattle.cell.specs.Steps.{cell32}
-use Rattle.lowering.specs.Sweep.{joinCell}
-use Rattle.lowering.specs.Spread.{rowBy}
-use Rattle.lowering.proofs.Code.LoopTurns.{Turns, turns-none, turns-more, turns-all, read-stored, join-cell-is}
-use Rattle.lowering.proofs.Theory.SweepSteps.{cell-lowers}
+use Rattle.lowering.proofs.Common.{needs, _-_, arith, version1-coherent, version1, cell32, joinCell, rowBy, Turns, turns-none, turns-more, turns-all}
+use Rattle.lowering.proofs.Common.{read-stored, join-cell-is, cell-lowers}
 use Rattle.joining.proofs.joins.row_by.Statement.{statement}
 use Rattle.joining.proofs.joins.row_by.Tie as tie
 

@@ -1,11 +1,5 @@
 -- `looks::height_all` meets its contract: the sum is that of the cells passed, and stays small. Assumes nothing.
-use borrow.Author.Needs.{needs}
-use mathlib.Core.Path.{_≡_, refl, ap, _∙_}
-use Prim.Native.Nat.{_+_, _-_, _≤_}
-use native.Mathlib.Omega.{arith}
-use Rattle.rules.specs.Plan.{version1}
-use Rattle.lowering.specs.Sweep.{heights}
-use Rattle.lowering.proofs.Code.LooksAtCells.{held-read, heights-most, heights-more}
+use Rattle.lowering.proofs.Common.{needs, _≡_, refl, ap, _∙_, _+_, _-_, _≤_, arith, version1, heights, held-read, heights-most, heights-more}
 use Rattle.joining.proofs.looks.height_all.Statement.{statement}
 use Rattle.joining.proofs.looks.height_all.Tie as tie
 

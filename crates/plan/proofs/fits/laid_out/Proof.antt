@@ -1,7 +1,6 @@
 -- `fits::laid_out` meets its contract: its sums fit for any counts, and its tests are the definition's.
 -- Assumes nothing.
-use mathlib.Core.Path.{refl}
-use borrow.Author.Needs.{needs}
+use Rattle.plan.proofs.Common.{refl, needs}
 use Rattle.plan.proofs.fits.laid_out.Statement.{statement}
 use Rattle.plan.proofs.fits.laid_out.Tie as tie
 

@@ -1,9 +1,6 @@
 -- `fits::limit_fits` meets its contract: the code's numbers are those of version 1, and a weight is read back from its bits.
 -- Assumes nothing.
-use borrow.Author.Needs.{sfits-of}
-use mir.Syntax.{w32}
-use mir.ValLaws.{toZ-ofZ}
-use Rattle.rules.specs.Plan.{version1}
+use Rattle.plan.proofs.Common.{sfits-of, w32, toZ-ofZ, version1}
 use Rattle.plan.specs.File.{limitFits}
 use Rattle.plan.proofs.fits.limit_fits.Statement.{statement}
 use Rattle.plan.proofs.fits.limit_fits.Tie as tie

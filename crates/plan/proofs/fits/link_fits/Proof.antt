@@ -1,7 +1,6 @@
 -- `fits::link_fits` meets its contract: the code's numbers are those of version 1.
 -- Assumes nothing.
-use mathlib.Core.Path.{refl}
-use Rattle.rules.specs.Plan.{version1}
+use Rattle.plan.proofs.Common.{refl, version1}
 use Rattle.plan.specs.File.{linkFits}
 use Rattle.plan.proofs.fits.link_fits.Statement.{statement}
 use Rattle.plan.proofs.fits.link_fits.Tie as tie

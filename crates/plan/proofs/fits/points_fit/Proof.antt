@@ -1,7 +1,6 @@
 -- `fits::points_fit` meets its contract: the code's numbers are those of version 1.
 -- Assumes nothing.
-use mathlib.Core.Path.{refl}
-use Rattle.rules.specs.Plan.{version1}
+use Rattle.plan.proofs.Common.{refl, version1}
 use Rattle.plan.proofs.fits.points_fit.Statement.{statement}
 use Rattle.plan.proofs.fits.points_fit.Tie as tie
 

@@ -1,6 +1,6 @@
 -- `record::head` meets its contract, field by field.
 -- Assumes nothing.
-use borrow.Author.Needs.{needs}
+use Rattle.plan.proofs.Common.{needs}
 use Rattle.plan.specs.Layout.{headOf}
 use Rattle.plan.proofs.record.head.Statement.{statement}
 use Rattle.plan.proofs.record.head.Tie as tie

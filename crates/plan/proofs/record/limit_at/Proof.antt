@@ -1,9 +1,6 @@
 -- `record::limit_at` meets its contract, field by field; the weight is read back from its bits.
 -- Assumes nothing.
-use borrow.Author.Needs.{needs, sfits-of}
-use mir.Syntax.{w32}
-use mir.ValLaws.{toZ-ofZ}
-use Rattle.plan.specs.Layout.{limitAt}
+use Rattle.plan.proofs.Common.{needs, sfits-of, w32, toZ-ofZ, limitAt}
 use Rattle.plan.proofs.record.limit_at.Statement.{statement}
 use Rattle.plan.proofs.record.limit_at.Tie as tie
 

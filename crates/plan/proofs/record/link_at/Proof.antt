@@ -1,7 +1,6 @@
 -- `record::link_at` meets its contract, field by field.
 -- Assumes nothing.
-use borrow.Author.Needs.{needs}
-use Rattle.plan.specs.Layout.{linkAt}
+use Rattle.plan.proofs.Common.{needs, linkAt}
 use Rattle.plan.proofs.record.link_at.Statement.{statement}
 use Rattle.plan.proofs.record.link_at.Tie as tie
 

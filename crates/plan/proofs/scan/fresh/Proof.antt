@@ -1,9 +1,6 @@
 -- `scan::fresh` meets its contract. The loop's invariant: what is asked of all i links is what is asked of the first j.
 -- Assumes nothing.
-use mathlib.Core.Path.{_≡_, refl, sym, _∙_}
-use native.Mathlib.Omega.{arith}
-use borrow.Author.Needs.{needs}
-use Rattle.plan.specs.Layout.{linkAt, earlier}
+use Rattle.plan.proofs.Common.{_≡_, refl, sym, _∙_, arith, needs, linkAt, earlier}
 use Rattle.plan.specs.File.{fresh}
 use Rattle.plan.proofs.RecordTurns.{fresh-next, fresh-stop, fresh-end}
 use Rattle.plan.proofs.scan.fresh.Statement.{statement}

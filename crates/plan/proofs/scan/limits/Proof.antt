@@ -1,12 +1,6 @@
 -- `scan::limits` meets its contract. The loop's invariant: the answer to all limits is the answer to those from index i on.
 -- Assumes nothing.
-use mathlib.Core.Path.{_≡_, sym, _∙_}
-use Prim.Native.Nat.{_-_, _≤_}
-use native.Mathlib.Nat.{sub-zero}
-use native.Mathlib.Omega.{arith}
-use borrow.Author.Needs.{needs}
-use Rattle.rules.specs.Plan.{version1}
-use Rattle.plan.specs.Layout.{limitAt, records}
+use Rattle.plan.proofs.Common.{_≡_, sym, _∙_, _-_, _≤_, sub-zero, arith, needs, version1, limitAt, records}
 use Rattle.plan.specs.File.{limitsAnswer}
 use Rattle.plan.proofs.RecordTurns.{limits-next, limits-stop, limits-end}
 use Rattle.plan.proofs.scan.limits.Statement.{statement}

@@ -1,13 +1,7 @@
 -- `scan::links` meets its contract. The loop's invariant: the answer to all links is the answer to those from index i on, after
 -- those before it. Assumes nothing.
-use mathlib.Core.Path.{_≡_, sym, _∙_}
+use Rattle.plan.proofs.Common.{_≡_, sym, _∙_, _-_, _≤_, sub-zero, arith, needs, version1, linkAt, records, earlier}
 use mathlib.Core.List.{[]}
-use Prim.Native.Nat.{_-_, _≤_}
-use native.Mathlib.Nat.{sub-zero}
-use native.Mathlib.Omega.{arith}
-use borrow.Author.Needs.{needs}
-use Rattle.rules.specs.Plan.{version1}
-use Rattle.plan.specs.Layout.{linkAt, records, earlier}
 use Rattle.plan.specs.File.{linksAnswer}
 use Rattle.plan.proofs.RecordTurns.{links-next, links-stop, links-repeat, links-end}
 use Rattle.plan.proofs.scan.links.Statement.{statement}

@@ -1,6 +1,5 @@
 -- `faces::post_add` meets its contract: the number of Add's answer, and what Add left. Assumes nothing.
-use borrow.Author.Needs.{needs}
-use Rattle.whole.proofs.Bits.{back}
+use Rattle.lowering.proofs.Common.{needs, back}
 use Rattle.adding.proofs.AddAnswers.{weight-back}
 use Rattle.post.proofs.faces.post_add.Statement.{statement}
 use Rattle.post.proofs.faces.post_add.Tie as tie

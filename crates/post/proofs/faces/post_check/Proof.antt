@@ -1,5 +1,5 @@
 -- `faces::post_check` meets its contract: the number of Check's answer. Assumes nothing.
-use borrow.Author.Needs.{needs}
+use Rattle.lowering.proofs.Common.{needs}
 use Rattle.post.proofs.faces.post_check.Statement.{statement}
 use Rattle.post.proofs.faces.post_check.Tie as tie
 

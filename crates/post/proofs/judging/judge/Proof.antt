@@ -1,6 +1,5 @@
 -- `judging::judge` meets its contract. Assumes nothing.
-use borrow.Author.Needs.{needs}
-use lib.ListN.{length}
+use Rattle.lowering.proofs.Common.{needs, length}
 use Rattle.post.proofs.JudgeAnswers.{not-accepted, is-accepted, lent-judged, lent-enough, enough-cells, ready-of}
 use Rattle.post.proofs.judging.judge.Statement.{statement}
 use Rattle.post.proofs.judging.judge.Tie as tie

@@ -1,5 +1,5 @@
 -- `judging::judge_sound` meets its contract: the sweeps settle, or both tables are marked. Assumes nothing.
-use borrow.Author.Needs.{needs}
+use Rattle.lowering.proofs.Common.{needs}
 use Rattle.post.proofs.JudgeAnswers.{judged-written, judged-refused}
 use Rattle.post.proofs.judging.judge_sound.Statement.{statement}
 use Rattle.post.proofs.judging.judge_sound.Tie as tie

@@ -1,8 +1,5 @@
 -- `judging::lent` meets its contract: the file's own code, then room for two tables. Assumes nothing.
-use borrow.Author.Needs.{needs}
-use mathlib.Core.Path.{_≡_, sym, _∙_}
-use Rattle.rules.specs.declared.Answer.the-variants.{Done}
-use Rattle.plan.specs.File.{fileAnswer}
+use Rattle.lowering.proofs.Common.{needs, _≡_, sym, _∙_, Done, fileAnswer}
 use Rattle.post.proofs.CheckAnswers.{cells-small}
 use Rattle.post.proofs.JudgeAnswers.{is-accepted, lent-refused, lent-short-strict, lent-short-open, lent-done}
 use Rattle.post.proofs.judging.lent.Statement.{statement}

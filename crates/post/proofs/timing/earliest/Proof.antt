@@ -1,6 +1,5 @@
 -- `timing::earliest` meets its contract: what comes before the work, room for the times, no links, and the work. Assumes nothing.
-use borrow.Author.Needs.{needs}
-use lib.ListN.{length}
+use Rattle.lowering.proofs.Common.{needs, length}
 use Rattle.post.proofs.JudgeAnswers.{Enough, not-accepted, is-accepted, lent-enough, enough-cells}
 use Rattle.post.proofs.EarliestAnswers.{lent-timed, times-short, times-links, ready-no-links}
 use Rattle.post.proofs.timing.earliest.Statement.{statement}

@@ -1,7 +1,5 @@
 -- `timing::timed` meets its contract: Judge's refusal, or the times of the tables that it wrote. Assumes nothing.
-use borrow.Author.Needs.{needs}
-use Prim.Native.Nat.{_≤_}
-use Rattle.rules.specs.Plan.{version1}
+use Rattle.lowering.proofs.Common.{needs, _≤_, version1}
 use Rattle.lowering.proofs.Code.ReadyFile.{ready-few}
 use Rattle.post.proofs.JudgeAnswers.{not-accepted, is-accepted}
 use Rattle.post.proofs.EarliestAnswers.{refused-timed, written-of, written-sound, timed-done}

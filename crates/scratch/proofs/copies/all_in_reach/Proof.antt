@@ -1,15 +1,6 @@
 -- `copies::all_in_reach` meets its contract: every cell passed is in reach, and one that is not is shown. Assumes nothing.
-use borrow.Author.Needs.{needs}
-use Prim.Native.Nat.{ℕ, _-_, _≤_, _<_}
-use native.Mathlib.Omega.{arith}
-use borrow.Author.Tests.{not-true, not-false}
-use borrow.Author.Count.{below-none, below-more}
-use lib.ListN.{getD}
-use lib.IntN.{pos}
-use Rattle.rules.specs.Cells.{Within}
-use Rattle.rules.specs.Plan.{version1}
-use Rattle.cell.specs.Steps.{cell64}
-use Rattle.lowering.proofs.Code.LooksAtCells.{looked-yes, looked-no}
+use Rattle.lowering.proofs.Common.{needs, ℕ, _-_, _≤_, _<_, arith, not-true, not-false, below-none, below-more, getD, pos, Within, version1, cell64}
+use Rattle.lowering.proofs.Common.{looked-yes, looked-no}
 use Rattle.scratch.proofs.copies.all_in_reach.Statement.{statement}
 use Rattle.scratch.proofs.copies.all_in_reach.Tie as tie
 

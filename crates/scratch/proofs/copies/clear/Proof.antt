@@ -1,9 +1,5 @@
 -- `copies::clear` meets its contract: each cell passed is 0. Assumes nothing.
-use borrow.Author.Needs.{needs}
-use native.Mathlib.Omega.{arith}
-use Prim.Native.Nat.{_-_}
-use mathlib.Core.Path.{_≡_, refl}
-use lib.IntN.{pos}
+use Rattle.lowering.proofs.Common.{needs, arith, _-_, _≡_, refl, pos}
 use Rattle.scratch.proofs.CellsCopied.{Copying, copying-none, copying-more, all-filled}
 use Rattle.scratch.proofs.copies.clear.Statement.{statement}
 use Rattle.scratch.proofs.copies.clear.Tie as tie

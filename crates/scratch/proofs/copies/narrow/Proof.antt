@@ -1,11 +1,5 @@
 -- `copies::narrow` meets its contract: each cell passed is the one of the scratch. Assumes nothing.
-use borrow.Author.Needs.{needs}
-use native.Mathlib.Omega.{arith}
-use Prim.Native.Nat.{_-_}
-use mathlib.Core.Path.{_≡_, sym}
-use lib.ListN.{getD}
-use lib.IntN.{pos}
-use Rattle.cell.specs.Steps.{cell32, cell64}
+use Rattle.lowering.proofs.Common.{needs, arith, _-_, _≡_, sym, getD, pos, cell32, cell64}
 use Rattle.scratch.proofs.CellsCopied.{Copying, copying-none, copying-more, all-narrowed}
 use Rattle.scratch.proofs.copies.narrow.Statement.{statement}
 use Rattle.scratch.proofs.copies.narrow.Tie as tie

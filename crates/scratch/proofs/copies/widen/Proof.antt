@@ -1,11 +1,5 @@
 -- `copies::widen` meets its contract: each cell passed is the one of the table. Assumes nothing.
-use borrow.Author.Needs.{needs}
-use native.Mathlib.Omega.{arith}
-use Prim.Native.Nat.{_-_}
-use mathlib.Core.Path.{_≡_, ap, _∙_}
-use lib.ListN.{getD}
-use lib.IntN.{pos}
-use Rattle.cell.specs.Steps.{cell32, cell64}
+use Rattle.lowering.proofs.Common.{needs, arith, _-_, _≡_, ap, _∙_, getD, pos, cell32, cell64}
 use Rattle.scratch.proofs.CellsCopied.{Copying, copying-none, copying-more, all-widened}
 use Rattle.scratch.proofs.copies.widen.Statement.{statement}
 use Rattle.scratch.proofs.copies.widen.Tie as tie

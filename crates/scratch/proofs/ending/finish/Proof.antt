@@ -1,6 +1,5 @@
 -- `ending::finish` meets its contract: one table, then the other, then the scratch. Assumes nothing.
-use native.Mathlib.Omega.{arith}
-use borrow.Author.Needs.{needs}
+use Rattle.lowering.proofs.Common.{arith, needs}
 use Rattle.scratch.proofs.ending.finish.Statement.{statement}
 use Rattle.scratch.proofs.ending.finish.Tie as tie
 

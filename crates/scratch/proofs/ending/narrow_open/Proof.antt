@@ -1,10 +1,8 @@
 -- `ending::narrow_open` meets its contract: the open table's part is lent. Assumes nothing.
-use Prim.Native.Nat.{_*_}
-use native.Mathlib.Omega.{arith}
+use Rattle.lowering.proofs.Common.{_*_, arith, needs}
 use lib.ListN.{length-drop}
 use Rattle.scratch.proofs.ScratchParts.{rest}
 use Rattle.scratch.proofs.AddBegins.{part-reach}
-use borrow.Author.Needs.{needs}
 use Rattle.scratch.proofs.ending.narrow_open.Statement.{statement}
 use Rattle.scratch.proofs.ending.narrow_open.Tie as tie
 

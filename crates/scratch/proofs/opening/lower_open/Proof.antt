@@ -1,13 +1,6 @@
 -- `opening::lower_open` meets its contract: the open table's part is lent. Assumes nothing.
-use mathlib.Core.Path.{ap, _∙_}
-use Prim.Native.Nat.{_*_, _-_, _≤_}
-use native.Mathlib.Omega.{arith}
-use lib.ListN.{length}
-use borrow.Rule.Slice.PartMut.{take-put}
-use Rattle.cell.specs.Steps.{adding, cell64}
-use Rattle.lowering.specs.Sweep.{lowerCell}
+use Rattle.lowering.proofs.Common.{ap, _∙_, _*_, _-_, _≤_, arith, length, take-put, adding, cell64, lowerCell, needs}
 use Rattle.scratch.proofs.ScratchParts.{rest, rest-back}
-use borrow.Author.Needs.{needs}
 use Rattle.scratch.proofs.opening.lower_open.Statement.{statement}
 use Rattle.scratch.proofs.opening.lower_open.Tie as tie
 

@@ -1,9 +1,6 @@
 -- `opening::open_row` meets its contract: a turn for each cell of the row. Assumes nothing.
-use borrow.Author.Needs.{needs}
-use Prim.Native.Nat.{_-_}
-use native.Mathlib.Omega.{arith}
-use Rattle.cell.specs.Steps.{adding}
-use Rattle.lowering.specs.Sweep.{openCell, openRow}
+use Rattle.lowering.proofs.Common.{needs, _-_, arith, adding, openRow}
+use Rattle.lowering.specs.Sweep.{openCell}
 use Rattle.lowering.proofs.Theory.SweepSteps.{open-cell-lowers}
 use Rattle.lowering.proofs.Code.FirstAsRead.{open-cell-is}
 use Rattle.wide.proofs.AddStart.{adding-coherent}

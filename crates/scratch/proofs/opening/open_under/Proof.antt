@@ -1,10 +1,6 @@
 -- `opening::open_under` meets its contract: a turn for each row. Assumes nothing.
-use borrow.Author.Needs.{needs}
-use mathlib.Core.Path.{ap, _∙_}
-use Prim.Native.Nat.{_-_}
-use native.Mathlib.Omega.{arith}
-use Rattle.cell.specs.Steps.{adding}
-use Rattle.lowering.specs.Sweep.{openRow, openAll}
+use Rattle.lowering.proofs.Common.{needs, ap, _∙_, _-_, arith, adding, openRow}
+use Rattle.lowering.specs.Sweep.{openAll}
 use Rattle.lowering.proofs.Theory.SweepSteps.{open-row-lowers}
 use Rattle.wide.proofs.AddStart.{adding-coherent}
 use Rattle.scratch.specs.Swept.{strictPart, openPart}

@@ -1,10 +1,6 @@
 -- `settling::both_fair` meets its contract: one part is looked at after the other. Assumes nothing.
-use mathlib.Core.Logic.{inl}
-use Prim.Native.Nat.{_*_}
-use borrow.Author.Tests.{not-true, not-false}
-use Rattle.lowering.proofs.Code.LooksAtCells.{looked-no, looked-also}
+use Rattle.lowering.proofs.Common.{inl, _*_, not-true, not-false, looked-no, looked-also, needs}
 use Rattle.scratch.proofs.ScratchParts.{half-room, front-length, rest}
-use borrow.Author.Needs.{needs}
 use Rattle.scratch.proofs.settling.both_fair.Statement.{statement}
 use Rattle.scratch.proofs.settling.both_fair.Tie as tie
 

@@ -1,12 +1,7 @@
 -- `settling::both_heights` meets its contract: two tables of at most 4,096 cells each stand far below the largest u64. Assumes nothing.
-use Prim.Native.Nat.{_*_}
-use native.Mathlib.Omega.{arith}
-use Rattle.whole.proofs.Place.{square-le}
-use Rattle.cell.specs.Steps.{adding}
-use Rattle.lowering.proofs.Code.LooksAtCells.{sound-held, heights-most}
+use Rattle.lowering.proofs.Common.{_*_, arith, square-le, adding, sound-held, heights-most, needs}
 use Rattle.scratch.specs.Swept.{strictPart, openPart}
 use Rattle.scratch.proofs.ScratchParts.{half-room, front-length, rest}
-use borrow.Author.Needs.{needs}
 use Rattle.scratch.proofs.settling.both_heights.Statement.{statement}
 use Rattle.scratch.proofs.settling.both_heights.Tie as tie
 

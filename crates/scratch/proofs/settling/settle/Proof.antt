@@ -1,8 +1,5 @@
 -- `settling::settle` meets its contract: some sweeps done, and the local is how far both tables can still fall, which is the measure. Assumes nothing.
-use borrow.Author.Tests.{not-true, not-false}
-use native.Mathlib.Omega.{arith}
-use Rattle.plan.specs.Layout.{linkAt}
-use Rattle.lowering.proofs.Code.LinksAsRead.{few}
+use Rattle.lowering.proofs.Common.{not-true, not-false, arith, linkAt, few}
 use Rattle.scratch.proofs.AddSweeps.{Sweeping, sweeping-none, sweeping-both, sweeping-length, sweeping-more, sweeping-falls, ended-no, ended-yes}
 use Rattle.scratch.proofs.settling.settle.Statement.{statement}
 use Rattle.scratch.proofs.settling.settle.Tie as tie

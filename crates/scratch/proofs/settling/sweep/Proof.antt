@@ -1,8 +1,6 @@
 -- `settling::sweep` meets its contract: the strict table, then the open one under it, then its own part. Assumes nothing.
-use mathlib.Core.Path.{_∙_}
-use Rattle.lowering.proofs.Code.LinksAsRead.{few}
+use Rattle.lowering.proofs.Common.{_∙_, few, needs}
 use Rattle.scratch.proofs.AddSweeps.{both-first, both-under, open-swept}
-use borrow.Author.Needs.{needs}
 use Rattle.scratch.proofs.settling.sweep.Statement.{statement}
 use Rattle.scratch.proofs.settling.sweep.Tie as tie
 

@@ -1,8 +1,6 @@
 -- `settling::sweep_first` meets its contract: the strict table's part is lent. Assumes nothing.
-use mathlib.Core.Path.{_∙_}
-use Prim.Native.Nat.{_*_}
+use Rattle.lowering.proofs.Common.{_∙_, _*_, needs}
 use Rattle.scratch.proofs.ScratchParts.{half-room, front-length, front-back, front-rest}
-use borrow.Author.Needs.{needs}
 use Rattle.scratch.proofs.settling.sweep_first.Statement.{statement}
 use Rattle.scratch.proofs.settling.sweep_first.Tie as tie
 

@@ -1,13 +1,6 @@
 -- `settling::sweep_last` meets its contract: the open table's part is lent. Assumes nothing.
-use mathlib.Core.Path.{ap, _∙_}
-use Prim.Native.Nat.{_*_, _-_}
-use lib.ListN.{length}
-use borrow.Rule.Slice.PartMut.{take-put}
-use Rattle.plan.specs.Layout.{linkAt}
-use Rattle.cell.specs.Steps.{adding}
-use Rattle.lowering.specs.Sweep.{caseAll, joinAll}
+use Rattle.lowering.proofs.Common.{ap, _∙_, _*_, _-_, length, take-put, linkAt, adding, caseAll, joinAll, needs}
 use Rattle.scratch.proofs.ScratchParts.{half-room, rest, rest-back}
-use borrow.Author.Needs.{needs}
 use Rattle.scratch.proofs.settling.sweep_last.Statement.{statement}
 use Rattle.scratch.proofs.settling.sweep_last.Tie as tie
 

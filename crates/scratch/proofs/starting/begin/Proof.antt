@@ -1,8 +1,6 @@
 -- `starting::begin` meets its contract: the cells, then the limit, then the first open table. Assumes nothing.
-use Rattle.plan.specs.Values.{limitOf}
-use native.Mathlib.Omega.{arith}
+use Rattle.lowering.proofs.Common.{limitOf, arith, needs}
 use Rattle.scratch.proofs.AddBegins.{widened-sound, begun-of}
-use borrow.Author.Needs.{needs}
 use Rattle.scratch.proofs.starting.begin.Statement.{statement}
 use Rattle.scratch.proofs.starting.begin.Tie as tie
 

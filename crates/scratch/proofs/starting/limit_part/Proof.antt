@@ -1,10 +1,6 @@
 -- `starting::limit_part` meets its contract: the strict table's part is lent. Assumes nothing.
-use mathlib.Core.Path.{_∙_}
-use Prim.Native.Nat.{_*_, _≤_}
-use native.Mathlib.Omega.{arith}
-use lib.ListN.{length}
+use Rattle.lowering.proofs.Common.{_∙_, _*_, _≤_, arith, length, needs}
 use Rattle.scratch.proofs.ScratchParts.{front-length, front-back, front-rest}
-use borrow.Author.Needs.{needs}
 use Rattle.scratch.proofs.starting.limit_part.Statement.{statement}
 use Rattle.scratch.proofs.starting.limit_part.Tie as tie
 

@@ -1,13 +1,6 @@
 -- `starting::open_part` meets its contract: the open table's part is lent. Assumes nothing.
-use mathlib.Core.Path.{ap, _∙_}
-use Prim.Native.Nat.{_*_, _-_, _≤_}
-use native.Mathlib.Omega.{arith}
-use lib.ListN.{length}
-use borrow.Rule.Slice.PartMut.{take-put}
-use Rattle.cell.specs.Steps.{adding}
-use Rattle.lowering.specs.Sweep.{firstOpen}
+use Rattle.lowering.proofs.Common.{ap, _∙_, _*_, _-_, _≤_, arith, length, take-put, adding, firstOpen, needs}
 use Rattle.scratch.proofs.ScratchParts.{rest, rest-back}
-use borrow.Author.Needs.{needs}
 use Rattle.scratch.proofs.starting.open_part.Statement.{statement}
 use Rattle.scratch.proofs.starting.open_part.Tie as tie
 

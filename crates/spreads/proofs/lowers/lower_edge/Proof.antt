@@ -1,11 +1,5 @@
 -- `lowers::lower_edge` meets its contract: nothing for a link's own contingent point, else an edge of what Lower yields. Assumes nothing.
-use borrow.Author.Needs.{needs}
-use mathlib.Core.Path.{refl}
-use native.Mathlib.Omega.{arith}
-use Rattle.rules.specs.Plan.{version1}
-use Rattle.plan.specs.Values.{linkOf}
-use Rattle.cell.proofs.StoredCells.{spread-is}
-use Rattle.lowering.proofs.Code.LoopTurns.{read-stored}
+use Rattle.lowering.proofs.Common.{needs, refl, arith, version1, linkOf, spread-is, read-stored}
 use Rattle.lowering.proofs.Code.LinksAsRead.{lower-edge-own, lower-edge-is}
 use Rattle.spreads.proofs.lowers.lower_edge.Statement.{statement}
 use Rattle.spreads.proofs.lowers.lower_edge.Tie as tie

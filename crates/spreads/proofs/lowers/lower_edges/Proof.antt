@@ -1,14 +1,8 @@
 -- `lowers::lower_edges` meets its contract: a turn for each second link. Assumes nothing.
-use borrow.Author.Needs.{needs}
-use Prim.Native.Nat.{_-_}
-use native.Mathlib.Omega.{arith}
-use Rattle.rules.proofs.Demands.{version1-coherent}
-use Rattle.rules.specs.Plan.{version1}
-use Rattle.plan.specs.Layout.{linkAt}
-use Rattle.lowering.specs.Spread.{lowerEdge, lowerEdges}
-use Rattle.lowering.proofs.Code.LoopTurns.{Turns, turns-none, turns-more, turns-all}
+use Rattle.lowering.proofs.Common.{needs, _-_, arith, version1-coherent, version1, linkAt, lowerEdges, Turns, turns-none, turns-more, turns-all, few}
+use Rattle.lowering.proofs.Common.{link-read, link-points, at-both}
+use Rattle.lowering.specs.Spread.{lowerEdge}
 use Rattle.lowering.proofs.Theory.SpreadSteps.{lower-edge-lowers}
-use Rattle.lowering.proofs.Code.LinksAsRead.{few, link-read, link-points, at-both}
 use Rattle.spreads.proofs.lowers.lower_edges.Statement.{statement}
 use Rattle.spreads.proofs.lowers.lower_edges.Tie as tie
 

@@ -1,12 +1,6 @@
 -- `spreading::spread_all` meets its contract: the rows before that of b, its own, and those after it. Assumes nothing.
-use borrow.Author.Needs.{needs}
-use native.Mathlib.Omega.{arith}
-use Rattle.rules.specs.Plan.{version1}
-use Rattle.rules.proofs.Demands.{version1-coherent}
-use Rattle.cell.specs.Steps.{cell32}
+use Rattle.lowering.proofs.Common.{needs, arith, version1, version1-coherent, cell32, before-sound, here-sound, and-after, spread-row-lowers}
 use Rattle.lowering.specs.Spread.{spreadAll}
-use Rattle.lowering.proofs.Code.LoopTurns.{before-sound, here-sound, and-after}
-use Rattle.lowering.proofs.Theory.SpreadSteps.{spread-row-lowers}
 use Rattle.spreads.proofs.spreading.spread_all.Statement.{statement}
 use Rattle.spreads.proofs.spreading.spread_all.Tie as tie
 

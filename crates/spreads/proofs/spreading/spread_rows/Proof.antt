@@ -1,13 +1,6 @@
 -- `spreading::spread_rows` meets its contract: a turn for each of the rows. Assumes nothing.
-use borrow.Author.Needs.{needs}
-use Prim.Native.Nat.{_-_}
-use native.Mathlib.Omega.{arith}
-use Rattle.rules.specs.Plan.{version1}
-use Rattle.rules.proofs.Demands.{version1-coherent}
-use Rattle.cell.specs.Steps.{cell32}
+use Rattle.lowering.proofs.Common.{needs, _-_, arith, version1, version1-coherent, cell32, Stretch, stretch-none, stretch-more, stretch-all, spread-row-lowers}
 use Rattle.lowering.specs.Spread.{spreadRow}
-use Rattle.lowering.proofs.Code.LoopTurns.{Stretch, stretch-none, stretch-more, stretch-all}
-use Rattle.lowering.proofs.Theory.SpreadSteps.{spread-row-lowers}
 use Rattle.spreads.proofs.spreading.spread_rows.Statement.{statement}
 use Rattle.spreads.proofs.spreading.spread_rows.Tie as tie
 

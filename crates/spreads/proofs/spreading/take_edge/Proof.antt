@@ -1,11 +1,6 @@
 -- `spreading::take_edge` meets its contract: an edge that closes a walk below 0 is written to the diagonal, and any other is spread. Assumes nothing.
-use borrow.Author.Needs.{needs}
-use native.Mathlib.Omega.{arith}
-use Rattle.rules.specs.Plan.{version1}
-use Rattle.cell.specs.Steps.{cell32}
-use Rattle.lowering.proofs.Code.LoopTurns.{read-stored}
+use Rattle.lowering.proofs.Common.{needs, arith, version1, cell32, read-stored, span-cell}
 use Rattle.lowering.proofs.Code.SpreadAsRead.{take-edge-closes, take-edge-spreads}
-use Rattle.lowering.proofs.Code.FirstAsRead.{span-cell}
 use Rattle.spreads.proofs.spreading.take_edge.Statement.{statement}
 use Rattle.spreads.proofs.spreading.take_edge.Tie as tie
 

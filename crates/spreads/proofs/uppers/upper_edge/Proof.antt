@@ -1,10 +1,5 @@
 -- `uppers::upper_edge` meets its contract: an edge of what Upper yields. Assumes nothing.
-use borrow.Author.Needs.{needs}
-use mathlib.Core.Path.{refl}
-use native.Mathlib.Omega.{arith}
-use Rattle.rules.specs.Plan.{version1}
-use Rattle.plan.specs.Values.{linkOf}
-use Rattle.lowering.proofs.Code.LoopTurns.{read-stored}
+use Rattle.lowering.proofs.Common.{needs, refl, arith, version1, linkOf, read-stored}
 use Rattle.lowering.proofs.Code.LinksAsRead.{upper-edge-is}
 use Rattle.spreads.proofs.uppers.upper_edge.Statement.{statement}
 use Rattle.spreads.proofs.uppers.upper_edge.Tie as tie

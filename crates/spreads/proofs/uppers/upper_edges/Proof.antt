@@ -1,12 +1,6 @@
 -- `uppers::upper_edges` meets its contract: a turn for each point. Assumes nothing.
-use borrow.Author.Needs.{needs}
-use Prim.Native.Nat.{_-_}
-use native.Mathlib.Omega.{arith}
-use Rattle.rules.proofs.Demands.{version1-coherent}
-use Rattle.rules.specs.Plan.{version1}
-use Rattle.plan.specs.Values.{linkOf}
-use Rattle.lowering.specs.Spread.{upperEdge, upperEdges}
-use Rattle.lowering.proofs.Code.LoopTurns.{Turns, turns-none, turns-more, turns-all}
+use Rattle.lowering.proofs.Common.{needs, _-_, arith, version1-coherent, version1, linkOf, upperEdges, Turns, turns-none, turns-more, turns-all}
+use Rattle.lowering.specs.Spread.{upperEdge}
 use Rattle.lowering.proofs.Theory.SpreadSteps.{upper-edge-lowers}
 use Rattle.spreads.proofs.uppers.upper_edges.Statement.{statement}
 use Rattle.spreads.proofs.uppers.upper_edges.Tie as tie

@@ -1,14 +1,7 @@
 -- `uppers::upper_round` meets its contract: a turn for each link. Assumes nothing.
-use borrow.Author.Needs.{needs}
-use Prim.Native.Nat.{_-_}
-use native.Mathlib.Omega.{arith}
-use Rattle.rules.proofs.Demands.{version1-coherent}
-use Rattle.rules.specs.Plan.{version1}
-use Rattle.plan.specs.Layout.{linkAt}
-use Rattle.lowering.specs.Spread.{upperEdges, upperRound}
-use Rattle.lowering.proofs.Code.LoopTurns.{Turns, turns-none, turns-more, turns-all}
+use Rattle.lowering.proofs.Common.{needs, _-_, arith, version1-coherent, version1, linkAt, upperEdges, upperRound, Turns, turns-none, turns-more}
+use Rattle.lowering.proofs.Common.{turns-all, few, link-read, link-points, at-read}
 use Rattle.lowering.proofs.Theory.SpreadSteps.{upper-edges-lowers}
-use Rattle.lowering.proofs.Code.LinksAsRead.{few, link-read, link-points, at-read}
 use Rattle.spreads.proofs.uppers.upper_round.Statement.{statement}
 use Rattle.spreads.proofs.uppers.upper_round.Tie as tie
 

@@ -1,10 +1,6 @@
 -- `opening::case_edge` meets its contract: the shortest span is a number of a cell. Assumes nothing.
-use borrow.Author.Needs.{needs}
-use native.Mathlib.Omega.{arith}
-use Rattle.rules.specs.Plan.{version1}
-use Rattle.lowering.specs.Spread.{caseEdge}
+use Rattle.lowering.proofs.Common.{needs, arith, version1, caseEdge, span-cell}
 use Rattle.lowering.proofs.Code.SpreadAsRead.{edge-by}
-use Rattle.lowering.proofs.Code.FirstAsRead.{span-cell}
 use Rattle.tables.proofs.opening.case_edge.Statement.{statement}
 use Rattle.tables.proofs.opening.case_edge.Tie as tie
 

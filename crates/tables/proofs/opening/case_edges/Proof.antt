@@ -1,14 +1,8 @@
 -- `opening::case_edges` meets its contract: a turn for each link. Assumes nothing.
-use borrow.Author.Needs.{needs}
-use Prim.Native.Nat.{_-_}
-use native.Mathlib.Omega.{arith}
-use Rattle.rules.proofs.Demands.{version1-coherent}
-use Rattle.rules.specs.Plan.{version1}
-use Rattle.plan.specs.Layout.{linkAt}
-use Rattle.lowering.specs.Spread.{caseEdge, caseEdges}
-use Rattle.lowering.proofs.Code.LoopTurns.{Turns, turns-none, turns-more, turns-all}
+use Rattle.lowering.proofs.Common.{needs, _-_, arith, version1-coherent, version1, linkAt, caseEdge, Turns, turns-none, turns-more, turns-all, few}
+use Rattle.lowering.proofs.Common.{link-read, link-points, at-read}
+use Rattle.lowering.specs.Spread.{caseEdges}
 use Rattle.lowering.proofs.Theory.SpreadSteps.{case-edge-lowers}
-use Rattle.lowering.proofs.Code.LinksAsRead.{few, link-read, link-points, at-read}
 use Rattle.tables.proofs.opening.case_edges.Statement.{statement}
 use Rattle.tables.proofs.opening.case_edges.Tie as tie
 

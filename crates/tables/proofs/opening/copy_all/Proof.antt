@@ -1,12 +1,6 @@
 -- `opening::copy_all` meets its contract: a turn for each cell. Assumes nothing.
-use borrow.Author.Needs.{needs, sfits-of}
-use Prim.Native.Nat.{_-_}
-use native.Mathlib.Omega.{arith}
-use lib.ListN.{getD}
-use lib.IntN.{pos}
-use mir.Syntax.{w32}
-use mir.Val.{toZ, ofZ}
-use Rattle.whole.proofs.Bits.{back}
+use Rattle.lowering.proofs.Common.{needs, _-_, arith, getD, pos, w32, toZ, ofZ, back}
+use borrow.Author.Needs.{sfits-of}
 use Rattle.lowering.proofs.Code.FirstAsRead.{Copying, copying-none, copying-more, copying-all}
 use Rattle.tables.proofs.opening.copy_all.Statement.{statement}
 use Rattle.tables.proofs.opening.copy_all.Tie as tie

@@ -1,8 +1,6 @@
 -- `opening::follow_link` meets its contract: Lower and then Upper. Assumes nothing.
-use borrow.Author.Needs.{needs}
-use Rattle.rules.specs.Plan.{version1}
-use Rattle.plan.specs.Layout.{linkAt}
-use Rattle.lowering.proofs.Code.LinksAsRead.{few, link-read, follow-link-is}
+use Rattle.lowering.proofs.Common.{needs, version1, linkAt, few, link-read}
+use Rattle.lowering.proofs.Code.LinksAsRead.{follow-link-is}
 use Rattle.lowering.proofs.Code.StillStored.{sound-follow-lowers}
 use Rattle.tables.proofs.opening.follow_link.Statement.{statement}
 use Rattle.tables.proofs.opening.follow_link.Tie as tie

@@ -1,14 +1,7 @@
 -- `opening::follow_lowers` meets its contract: a turn for each second link. Assumes nothing.
-use borrow.Author.Needs.{needs}
-use Prim.Native.Nat.{_-_}
-use native.Mathlib.Omega.{arith}
-use Rattle.rules.proofs.Demands.{version1-coherent}
-use Rattle.rules.specs.Plan.{version1}
-use Rattle.plan.specs.Layout.{linkAt}
+use Rattle.lowering.proofs.Common.{needs, _-_, arith, version1-coherent, version1, linkAt, Turns, turns-none, turns-more, turns-all, few, link-read, link-points, at-both}
 use Rattle.lowering.specs.Spread.{followLower, followLowers}
-use Rattle.lowering.proofs.Code.LoopTurns.{Turns, turns-none, turns-more, turns-all}
 use Rattle.lowering.proofs.Theory.SpreadSteps.{follow-lower-lowers}
-use Rattle.lowering.proofs.Code.LinksAsRead.{few, link-read, link-points, at-both}
 use Rattle.tables.proofs.opening.follow_lowers.Statement.{statement}
 use Rattle.tables.proofs.opening.follow_lowers.Tie as tie
 

@@ -1,12 +1,6 @@
 -- `opening::follow_uppers` meets its contract: a turn for each point. Assumes nothing.
-use borrow.Author.Needs.{needs}
-use Prim.Native.Nat.{_-_}
-use native.Mathlib.Omega.{arith}
-use Rattle.rules.proofs.Demands.{version1-coherent}
-use Rattle.rules.specs.Plan.{version1}
-use Rattle.plan.specs.Values.{linkOf}
+use Rattle.lowering.proofs.Common.{needs, _-_, arith, version1-coherent, version1, linkOf, Turns, turns-none, turns-more, turns-all}
 use Rattle.lowering.specs.Spread.{followUpper, followUppers}
-use Rattle.lowering.proofs.Code.LoopTurns.{Turns, turns-none, turns-more, turns-all}
 use Rattle.lowering.proofs.Theory.SpreadSteps.{follow-upper-lowers}
 use Rattle.tables.proofs.opening.follow_uppers.Statement.{statement}
 use Rattle.tables.proofs.opening.follow_uppers.Tie as tie

@@ -1,8 +1,5 @@
 -- `settling::both_fair` meets its contract: one table is looked at after the other. Assumes nothing.
-use borrow.Author.Needs.{needs}
-use borrow.Author.Tests.{not-true, not-false}
-use mathlib.Core.Logic.{inl}
-use Rattle.lowering.proofs.Code.LooksAtCells.{looked-no, looked-also}
+use Rattle.lowering.proofs.Common.{needs, not-true, not-false, inl, looked-no, looked-also}
 use Rattle.tables.proofs.settling.both_fair.Statement.{statement}
 use Rattle.tables.proofs.settling.both_fair.Tie as tie
 

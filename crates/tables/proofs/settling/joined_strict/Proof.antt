@@ -1,9 +1,5 @@
 -- `settling::joined_strict` meets its contract: the given edges, and joins. Assumes nothing.
-use borrow.Author.Needs.{needs}
-use mathlib.Core.Path.{ap, _∙_}
-use Rattle.rules.specs.Plan.{version1}
-use Rattle.lowering.specs.Sweep.{joinAll}
-use Rattle.lowering.proofs.Code.LinksAsRead.{few}
+use Rattle.lowering.proofs.Common.{needs, ap, _∙_, version1, joinAll, few}
 use Rattle.lowering.proofs.Code.StillStored.{sound-first}
 use Rattle.tables.proofs.settling.joined_strict.Statement.{statement}
 use Rattle.tables.proofs.settling.joined_strict.Tie as tie

@@ -1,9 +1,5 @@
 -- `settling::opened` meets its contract: a copy, and the lower-case edges taken in it. Assumes nothing.
-use borrow.Author.Needs.{needs}
-use native.Mathlib.Omega.{arith}
-use Rattle.whole.proofs.Place.{square-le}
-use Rattle.rules.specs.Plan.{version1}
-use Rattle.lowering.proofs.Code.LinksAsRead.{few}
+use Rattle.lowering.proofs.Common.{needs, arith, square-le, version1, few}
 use Rattle.lowering.proofs.Theory.RoundsBegin.{copied-sound}
 use Rattle.tables.proofs.settling.opened.Statement.{statement}
 use Rattle.tables.proofs.settling.opened.Tie as tie

@@ -1,14 +1,8 @@
 -- `settling::settle` meets its contract. The loop's invariant: both tables stand as before a round, and the local is how far the strict one can still fall, which is the
 -- measure. Assumes nothing.
-use mathlib.Core.Path.{_≡_, sym, _∙_}
-use borrow.Author.Tests.{not-true, not-false}
-use Prim.Native.Nat.{_*_}
-use native.Mathlib.Omega.{arith}
-use Rattle.rules.specs.Plan.{version1}
-use Rattle.lowering.specs.Sweep.{heights}
-use Rattle.lowering.proofs.Code.LinksAsRead.{few}
-use Rattle.lowering.proofs.Code.LooksAtCells.{looked-yes, looked-no}
-use Rattle.tables.proofs.SettleLoop.{Standing, standing-here, standing-after, standing-strict, standing-open, first-sound, standing-first, round-sound, round-falls, standing-on, standing-ends, standing-unfair}
+use Rattle.lowering.proofs.Common.{_≡_, sym, _∙_, not-true, not-false, _*_, arith, version1, heights, few, looked-yes, looked-no}
+use Rattle.tables.proofs.SettleLoop.{Standing, standing-here, standing-after, standing-strict, standing-open, first-sound, standing-first}
+use Rattle.tables.proofs.SettleLoop.{round-sound, round-falls, standing-on, standing-ends, standing-unfair}
 use Rattle.tables.proofs.settling.settle.Statement.{statement}
 use Rattle.tables.proofs.settling.settle.Tie as tie
 

@@ -1,8 +1,5 @@
 -- `settling::strict_height` meets its contract: a table of at most 4,096 cells. Assumes nothing.
-use borrow.Author.Needs.{needs}
-use native.Mathlib.Omega.{arith}
-use Rattle.whole.proofs.Place.{square-le}
-use Rattle.lowering.proofs.Code.LooksAtCells.{sound-held}
+use Rattle.lowering.proofs.Common.{needs, arith, square-le, sound-held}
 use Rattle.tables.proofs.settling.strict_height.Statement.{statement}
 use Rattle.tables.proofs.settling.strict_height.Tie as tie
 

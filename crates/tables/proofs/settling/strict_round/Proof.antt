@@ -1,9 +1,6 @@
 -- `settling::strict_round` meets its contract: Lower, then Upper. Assumes nothing.
-use borrow.Author.Needs.{needs}
-use mathlib.Core.Path.{ap, _∙_}
-use Rattle.rules.specs.Plan.{version1}
-use Rattle.plan.specs.Layout.{linkAt}
-use Rattle.lowering.specs.Spread.{upperRound, strictRound}
+use Rattle.lowering.proofs.Common.{needs, ap, _∙_, version1, linkAt, upperRound}
+use Rattle.lowering.specs.Spread.{strictRound}
 use Rattle.lowering.proofs.Code.StillStored.{sound-lower-round}
 use Rattle.tables.proofs.settling.strict_round.Statement.{statement}
 use Rattle.tables.proofs.settling.strict_round.Tie as tie

@@ -1,9 +1,5 @@
 -- `timing::times_all` meets its contract: a turn for each point. Assumes nothing.
-use borrow.Author.Needs.{needs}
-use Prim.Native.Nat.{_-_}
-use native.Mathlib.Omega.{arith}
-use Rattle.rules.specs.Plan.{version1}
-use Rattle.lowering.proofs.Code.LoopTurns.{read-stored}
+use Rattle.lowering.proofs.Common.{needs, _-_, arith, version1, read-stored}
 use Rattle.tables.proofs.TimesWritten.{minus-stored, minus-is, Timing, timing-none, timing-more, timing-all}
 use Rattle.tables.proofs.timing.times_all.Statement.{statement}
 use Rattle.tables.proofs.timing.times_all.Tie as tie

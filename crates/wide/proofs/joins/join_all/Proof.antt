@@ -1,12 +1,6 @@
 -- `joins::join_all` meets its contract: a turn for each middle. Assumes nothing.
-use Prim.Native.Nat.{_-_}
-use native.Mathlib.Omega.{arith}
-use Rattle.cell.specs.Steps.{adding}
+use Rattle.lowering.proofs.Common.{_-_, arith, adding, joinMiddle, joinAll, Turns, turns-none, turns-more, turns-all, middle-lowers, needs}
 use Rattle.wide.proofs.AddStart.{adding-coherent}
-use Rattle.lowering.specs.Sweep.{joinMiddle, joinAll}
-use Rattle.lowering.proofs.Code.LoopTurns.{Turns, turns-none, turns-more, turns-all}
-use Rattle.lowering.proofs.Theory.SweepSteps.{middle-lowers}
-use borrow.Author.Needs.{needs}
 use Rattle.wide.proofs.joins.join_all.Statement.{statement}
 use Rattle.wide.proofs.joins.join_all.Tie as tie
 

@@ -1,12 +1,6 @@
 -- `joins::join_middle` meets its contract: a turn for each row. Assumes nothing.
-use Prim.Native.Nat.{_-_}
-use native.Mathlib.Omega.{arith}
-use Rattle.cell.specs.Steps.{adding}
+use Rattle.lowering.proofs.Common.{_-_, arith, adding, joinRow, joinMiddle, Turns, turns-none, turns-more, turns-all, row-lowers, needs}
 use Rattle.wide.proofs.AddStart.{adding-coherent}
-use Rattle.lowering.specs.Sweep.{joinRow, joinMiddle}
-use Rattle.lowering.proofs.Code.LoopTurns.{Turns, turns-none, turns-more, turns-all}
-use Rattle.lowering.proofs.Theory.SweepSteps.{row-lowers}
-use borrow.Author.Needs.{needs}
 use Rattle.wide.proofs.joins.join_middle.Statement.{statement}
 use Rattle.wide.proofs.joins.join_middle.Tie as tie
 

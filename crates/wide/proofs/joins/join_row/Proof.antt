@@ -1,14 +1,7 @@
 -- `joins::join_row` meets its contract: a row whose cell to the middle is the mark stays, and else a turn for each cell of it. Assumes nothing.
-use mathlib.Core.Path.{sym, _∙_}
-use Prim.Native.Nat.{_-_}
-use native.Mathlib.Omega.{arith}
+use Rattle.lowering.proofs.Common.{sym, _∙_, _-_, arith, adding, cell64, mark-read, joinCell, Turns, turns-none, turns-more, turns-all, row-at-mark}
+use Rattle.lowering.proofs.Common.{read-stored, read-cell, join-cell-is, join-row-is, cell-lowers, needs}
 use Rattle.wide.proofs.AddStart.{adding-coherent}
-use Rattle.cell.specs.Steps.{adding, cell64}
-use Rattle.cell.proofs.CellMethods.{is-mark as mark-read}
-use Rattle.lowering.specs.Sweep.{joinCell}
-use Rattle.lowering.proofs.Code.LoopTurns.{Turns, turns-none, turns-more, turns-all, row-at-mark, read-stored, read-cell, join-cell-is, join-row-is}
-use Rattle.lowering.proofs.Theory.SweepSteps.{cell-lowers}
-use borrow.Author.Needs.{needs}
 use Rattle.wide.proofs.joins.join_row.Statement.{statement}
 use Rattle.wide.proofs.joins.join_row.Tie as tie
 

@@ -1,14 +1,7 @@
 -- `looks::none_negative` meets its contract: every diagonal cell passed is at least 0. Assumes nothing.
-use borrow.Author.Needs.{needs}
-use Prim.Native.Nat.{ℕ, _-_, _≤_, _<_}
-use native.Mathlib.Omega.{arith}
-use borrow.Author.Count.{below-none, below-more}
-use lib.IntN.{pos}
-use Rattle.whole.proofs.Bits.{tested}
-use Rattle.cell.specs.Steps.{adding}
-use Rattle.rules.specs.Cells.{num, _≤ᶜ_, tableOf}
+use Rattle.lowering.proofs.Common.{needs, ℕ, _-_, _≤_, _<_, arith, below-none, below-more, pos, tested, adding, num, _≤ᶜ_, tableOf, looked-yes}
+use Rattle.lowering.proofs.Common.{looked-no, negative-unfair, not-negative}
 use Rattle.wide.proofs.WideCells.{span-cell}
-use Rattle.lowering.proofs.Code.LooksAtCells.{looked-yes, looked-no, negative-unfair, not-negative}
 use Rattle.wide.proofs.looks.none_negative.Statement.{statement}
 use Rattle.wide.proofs.looks.none_negative.Tie as tie
 

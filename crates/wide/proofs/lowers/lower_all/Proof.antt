@@ -1,14 +1,7 @@
 -- `lowers::lower_all` meets its contract: a turn for each link. Assumes nothing.
-use Prim.Native.Nat.{_-_}
-use native.Mathlib.Omega.{arith}
-use Rattle.cell.specs.Steps.{adding}
+use Rattle.lowering.proofs.Common.{_-_, arith, adding, linkAt, lowerLink, lowerAll, Turns, turns-none, turns-more, turns-all, link-points, needs}
 use Rattle.wide.proofs.AddStart.{adding-coherent}
-use Rattle.plan.specs.Layout.{linkAt}
-use Rattle.lowering.specs.Sweep.{lowerLink, lowerAll}
-use Rattle.lowering.proofs.Code.LoopTurns.{Turns, turns-none, turns-more, turns-all}
 use Rattle.lowering.proofs.Theory.SweepSteps.{link-lowers}
-use Rattle.lowering.proofs.Code.LinksAsRead.{link-points}
-use borrow.Author.Needs.{needs}
 use Rattle.wide.proofs.lowers.lower_all.Statement.{statement}
 use Rattle.wide.proofs.lowers.lower_all.Tie as tie
 

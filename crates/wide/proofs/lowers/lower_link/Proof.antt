@@ -1,14 +1,9 @@
 -- `lowers::lower_link` meets its contract: a turn for each second link. Assumes nothing.
-use Prim.Native.Nat.{_-_}
-use native.Mathlib.Omega.{arith}
-use Rattle.cell.specs.Steps.{adding}
+use Rattle.lowering.proofs.Common.{_-_, arith, adding, linkAt, lowerLink, Turns, turns-none, turns-more, turns-all, few, link-read, link-points, needs}
 use Rattle.wide.proofs.AddStart.{adding-coherent}
-use Rattle.plan.specs.Layout.{linkAt}
-use Rattle.lowering.specs.Sweep.{lowerPair, lowerLink}
-use Rattle.lowering.proofs.Code.LoopTurns.{Turns, turns-none, turns-more, turns-all}
+use Rattle.lowering.specs.Sweep.{lowerPair}
 use Rattle.lowering.proofs.Theory.SweepSteps.{pair-lowers}
-use Rattle.lowering.proofs.Code.LinksAsRead.{few, link-read, link-points, pair-at}
-use borrow.Author.Needs.{needs}
+use Rattle.lowering.proofs.Code.LinksAsRead.{pair-at}
 use Rattle.wide.proofs.lowers.lower_link.Statement.{statement}
 use Rattle.wide.proofs.lowers.lower_link.Tie as tie
 

@@ -1,12 +1,6 @@
 -- `lowers::lower_pair` meets its contract: nothing for a link's own contingent point, else one cell lowered to what Lower yields. Assumes nothing.
-use mathlib.Core.Path.{refl}
-use native.Mathlib.Omega.{arith}
-use Rattle.cell.specs.Steps.{adding}
-use Rattle.plan.specs.Values.{linkOf}
-use Rattle.cell.proofs.StoredCells.{spread-is}
-use Rattle.lowering.proofs.Code.LoopTurns.{read-stored}
+use Rattle.lowering.proofs.Common.{refl, arith, adding, linkOf, spread-is, read-stored, needs}
 use Rattle.lowering.proofs.Code.LinksAsRead.{pair-own, pair-is}
-use borrow.Author.Needs.{needs}
 use Rattle.wide.proofs.AddStart.{weights-held}
 use Rattle.wide.proofs.lowers.lower_pair.Statement.{statement}
 use Rattle.wide.proofs.lowers.lower_pair.Tie as tie

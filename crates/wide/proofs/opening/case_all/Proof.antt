@@ -1,14 +1,7 @@
 -- `opening::case_all` meets its contract: a turn for each link. Assumes nothing.
-use borrow.Author.Needs.{needs}
-use Prim.Native.Nat.{_-_}
-use native.Mathlib.Omega.{arith}
-use Rattle.cell.specs.Steps.{adding}
+use Rattle.lowering.proofs.Common.{needs, _-_, arith, adding, linkAt, caseLink, caseAll, few, link-read, link-points, at-read, Turns, turns-none, turns-more, turns-all}
 use Rattle.wide.proofs.AddStart.{adding-coherent}
-use Rattle.plan.specs.Layout.{linkAt}
-use Rattle.lowering.specs.Sweep.{caseLink, caseAll}
 use Rattle.lowering.proofs.Theory.SweepSteps.{case-link-lowers}
-use Rattle.lowering.proofs.Code.LinksAsRead.{few, link-read, link-points, at-read}
-use Rattle.lowering.proofs.Code.LoopTurns.{Turns, turns-none, turns-more, turns-all}
 use Rattle.wide.proofs.opening.case_all.Statement.{statement}
 use Rattle.wide.proofs.opening.case_all.Tie as tie
 

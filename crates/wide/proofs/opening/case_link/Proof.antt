@@ -1,10 +1,6 @@
 -- `opening::case_link` meets its contract: the shortest span is a number of a cell. Assumes nothing.
-use borrow.Author.Needs.{needs}
+use Rattle.lowering.proofs.Common.{needs, arith, adding, caseLink, lowering-by}
 use Rattle.wide.proofs.AddStart.{weights-held}
-use native.Mathlib.Omega.{arith}
-use Rattle.cell.specs.Steps.{adding}
-use Rattle.lowering.specs.Sweep.{caseLink}
-use Rattle.lowering.proofs.Code.LinksAsRead.{lowering-by}
 use Rattle.wide.proofs.WideCells.{span-cell}
 use Rattle.wide.proofs.opening.case_link.Statement.{statement}
 use Rattle.wide.proofs.opening.case_link.Tie as tie

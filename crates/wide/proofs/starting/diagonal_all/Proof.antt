@@ -1,16 +1,7 @@
 -- `starting::diagonal_all` meets its contract: a turn for each point. Assumes nothing.
-use borrow.Author.Needs.{needs}
-use Prim.Native.Nat.{_-_}
-use native.Mathlib.Omega.{arith}
-use Rattle.cell.specs.Steps.{adding}
+use Rattle.lowering.proofs.Common.{needs, _-_, arith, adding, num, pos, lowerCell, diagonalAll, diagonal-lowers, lowering-by, Turns, turns-none, turns-more, turns-all}
 use Rattle.wide.proofs.AddStart.{adding-coherent}
-use Rattle.rules.specs.Cells.{num}
-use lib.IntN.{pos}
-use Rattle.lowering.specs.Sweep.{lowerCell, diagonalAll}
-use Rattle.lowering.proofs.Theory.SweepSteps.{diagonal-lowers}
-use Rattle.lowering.proofs.Code.LinksAsRead.{lowering-by}
 use Rattle.wide.proofs.WideCells.{span-cell}
-use Rattle.lowering.proofs.Code.LoopTurns.{Turns, turns-none, turns-more, turns-all}
 use Rattle.wide.proofs.starting.diagonal_all.Statement.{statement}
 use Rattle.wide.proofs.starting.diagonal_all.Tie as tie
 

@@ -1,10 +1,5 @@
 -- `starting::first_open` meets its contract: the mark everywhere, then the diagonal. Assumes nothing.
-use borrow.Author.Needs.{needs}
-use mathlib.Core.Path.{ap, _∙_}
-use native.Mathlib.Omega.{arith}
-use Rattle.whole.proofs.Place.{square-le}
-use Rattle.cell.specs.Steps.{adding}
-use Rattle.lowering.specs.Sweep.{diagonalAll, firstOpen}
+use Rattle.lowering.proofs.Common.{needs, ap, _∙_, arith, square-le, adding, diagonalAll, firstOpen}
 use Rattle.wide.proofs.WideCells.{sound-marks}
 use Rattle.wide.proofs.starting.first_open.Statement.{statement}
 use Rattle.wide.proofs.starting.first_open.Tie as tie

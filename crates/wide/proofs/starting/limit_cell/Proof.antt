@@ -1,8 +1,5 @@
 -- `starting::limit_cell` meets its contract: a weight in range is a number of a cell. Assumes nothing.
-use borrow.Author.Needs.{needs}
-use Rattle.cell.specs.Steps.{adding}
-use Rattle.lowering.specs.Sweep.{limitCell}
-use Rattle.lowering.proofs.Code.LinksAsRead.{lowering-by}
+use Rattle.lowering.proofs.Common.{needs, adding, limitCell, lowering-by}
 use Rattle.wide.proofs.WideCells.{weight-cell}
 use Rattle.wide.proofs.starting.limit_cell.Statement.{statement}
 use Rattle.wide.proofs.starting.limit_cell.Tie as tie

@@ -1,14 +1,6 @@
 -- `starting::mark_all` meets its contract: a turn for each cell. Assumes nothing.
-use borrow.Author.Needs.{needs}
-use mathlib.Core.Path.{_≡_}
-use Prim.Native.Nat.{_-_}
-use lib.IntN.{pos}
-use native.Mathlib.Omega.{arith}
+use Rattle.lowering.proofs.Common.{needs, _≡_, _-_, pos, arith, toZ, ofZ, adding, number-of, Marking, marking-none, marking-more, marking-all}
 use mir.Syntax.{w64}
-use mir.Val.{toZ, ofZ}
-use Rattle.cell.specs.Steps.{adding}
-use Rattle.cell.proofs.StoredCells.{number-of}
-use Rattle.lowering.proofs.Code.FirstAsRead.{Marking, marking-none, marking-more, marking-all}
 use Rattle.wide.proofs.starting.mark_all.Statement.{statement}
 use Rattle.wide.proofs.starting.mark_all.Tie as tie
 

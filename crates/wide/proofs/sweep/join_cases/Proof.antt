@@ -1,9 +1,5 @@
 -- `sweep::join_cases` meets its contract: under the lower-case edges, then joins. Assumes nothing.
-use borrow.Author.Needs.{needs}
-use mathlib.Core.Path.{ap, _∙_}
-use Rattle.cell.specs.Steps.{adding}
-use Rattle.lowering.specs.Sweep.{joinAll}
-use Rattle.lowering.proofs.Code.LinksAsRead.{few}
+use Rattle.lowering.proofs.Common.{needs, ap, _∙_, adding, joinAll, few}
 use Rattle.wide.proofs.WideCells.{sound-case}
 use Rattle.wide.proofs.sweep.join_cases.Statement.{statement}
 use Rattle.wide.proofs.sweep.join_cases.Tie as tie

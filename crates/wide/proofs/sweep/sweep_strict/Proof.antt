@@ -1,10 +1,6 @@
 -- `sweep::sweep_strict` meets its contract: joins, then Lower, then Upper. Assumes nothing.
-use borrow.Author.Needs.{needs}
-use mathlib.Core.Path.{ap, _∙_}
-use Rattle.cell.specs.Steps.{adding}
-use Rattle.plan.specs.Layout.{linkAt}
-use Rattle.lowering.specs.Sweep.{lowerAll, upperAll, sweepStrict}
-use Rattle.lowering.proofs.Code.LinksAsRead.{few}
+use Rattle.lowering.proofs.Common.{needs, ap, _∙_, adding, linkAt, lowerAll, upperAll, few}
+use Rattle.lowering.specs.Sweep.{sweepStrict}
 use Rattle.wide.proofs.WideCells.{sound-joins, sound-lower}
 use Rattle.wide.proofs.sweep.sweep_strict.Statement.{statement}
 use Rattle.wide.proofs.sweep.sweep_strict.Tie as tie

@@ -1,14 +1,7 @@
 -- `uppers::upper_all` meets its contract: a turn for each point. Assumes nothing.
-use Prim.Native.Nat.{_-_}
-use native.Mathlib.Omega.{arith}
-use Rattle.cell.specs.Steps.{adding}
+use Rattle.lowering.proofs.Common.{_-_, arith, adding, linkAt, upperPoint, upperAll, Turns, turns-none, turns-more, turns-all, link-points, needs}
 use Rattle.wide.proofs.AddStart.{adding-coherent}
-use Rattle.plan.specs.Layout.{linkAt}
-use Rattle.lowering.specs.Sweep.{upperPoint, upperAll}
-use Rattle.lowering.proofs.Code.LoopTurns.{Turns, turns-none, turns-more, turns-all}
 use Rattle.lowering.proofs.Theory.SweepSteps.{upper-point-lowers}
-use Rattle.lowering.proofs.Code.LinksAsRead.{link-points}
-use borrow.Author.Needs.{needs}
 use Rattle.wide.proofs.uppers.upper_all.Statement.{statement}
 use Rattle.wide.proofs.uppers.upper_all.Tie as tie
 

@@ -1,11 +1,6 @@
 -- `uppers::upper_cell` meets its contract: one cell lowered to what Upper yields. Assumes nothing.
-use mathlib.Core.Path.{refl}
-use native.Mathlib.Omega.{arith}
-use Rattle.cell.specs.Steps.{adding}
-use Rattle.plan.specs.Values.{linkOf}
-use Rattle.lowering.proofs.Code.LoopTurns.{read-stored}
+use Rattle.lowering.proofs.Common.{refl, arith, adding, linkOf, read-stored, needs}
 use Rattle.lowering.proofs.Code.LinksAsRead.{upper-cell-is}
-use borrow.Author.Needs.{needs}
 use Rattle.wide.proofs.AddStart.{weights-held}
 use Rattle.wide.proofs.uppers.upper_cell.Statement.{statement}
 use Rattle.wide.proofs.uppers.upper_cell.Tie as tie

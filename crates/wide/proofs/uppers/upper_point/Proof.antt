@@ -1,14 +1,8 @@
 -- `uppers::upper_point` meets its contract: a turn for each link. Assumes nothing.
-use borrow.Author.Needs.{needs}
-use Prim.Native.Nat.{_-_}
-use native.Mathlib.Omega.{arith}
-use Rattle.cell.specs.Steps.{adding}
+use Rattle.lowering.proofs.Common.{needs, _-_, arith, adding, linkAt, upperPoint, Turns, turns-none, turns-more, turns-all, few, link-read, link-points, at-read}
 use Rattle.wide.proofs.AddStart.{adding-coherent}
-use Rattle.plan.specs.Layout.{linkAt}
-use Rattle.lowering.specs.Sweep.{upperCell, upperPoint}
-use Rattle.lowering.proofs.Code.LoopTurns.{Turns, turns-none, turns-more, turns-all}
+use Rattle.lowering.specs.Sweep.{upperCell}
 use Rattle.lowering.proofs.Theory.SweepSteps.{upper-cell-lowers}
-use Rattle.lowering.proofs.Code.LinksAsRead.{few, link-read, link-points, at-read}
 use Rattle.wide.proofs.uppers.upper_point.Statement.{statement}
 use Rattle.wide.proofs.uppers.upper_point.Tie as tie
 

@@ -1,7 +1,6 @@
 -- `Cell64::add` meets its contract: past the two tests for the mark both cells are numbers, and Join is their sum. Assumes nothing.
-use borrow.Author.Needs.{needs}
-use Rattle.cell.specs.Steps.{adding, cell64}
-use Rattle.cell.proofs.CellMethods.{Number, number, is-mark, room64, join-left, join-right, join}
+use Rattle.cell.proofs.Common.{needs, adding, cell64, Number, number, is-mark, room64, join-left, join-right}
+use Rattle.cell.proofs.CellMethods.{join}
 use Rattle.cell.proofs.wide.Cell64.add.Statement.{statement}
 use Rattle.cell.proofs.wide.Cell64.add.Tie as tie
 

@@ -1,8 +1,5 @@
 -- `Cell64::below` meets its contract: the mark is the largest number of the type. Assumes nothing.
-use mir.Syntax.{w64}
-use mir.Val.{SFits}
-use Rattle.whole.proofs.Bits.{back, fit}
-use Rattle.cell.proofs.CellMethods.{room64, below-flag}
+use Rattle.cell.proofs.Common.{w64, SFits, back, fit, room64, below-flag}
 use Rattle.cell.proofs.wide.Cell64.below.Statement.{statement}
 use Rattle.cell.proofs.wide.Cell64.below.Tie as tie
 

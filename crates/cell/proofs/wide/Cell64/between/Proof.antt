@@ -1,10 +1,5 @@
 -- `Cell64::between` meets its contract: the mark is in every reach, and a number where no test against an end holds. Assumes nothing.
-use borrow.Author.Needs.{needs}
-use mathlib.Core.Path.{_≡_}
-use Rattle.whole.proofs.Bits.{tested}
-use Rattle.rules.specs.Cells.{num}
-use Rattle.cell.specs.Steps.{adding, cell64}
-use Rattle.cell.proofs.CellMethods.{is-mark, no-mark, reach-mark, reach-above, reach-below, reach-within}
+use Rattle.cell.proofs.Common.{needs, _≡_, tested, num, adding, cell64, is-mark, no-mark, reach-mark, reach-above, reach-below, reach-within}
 use Rattle.cell.proofs.wide.Cell64.between.Statement.{statement}
 use Rattle.cell.proofs.wide.Cell64.between.Tie as tie
 

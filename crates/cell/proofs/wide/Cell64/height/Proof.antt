@@ -1,8 +1,5 @@
 -- `Cell64::height` meets its contract: the mark stands highest, and past the test for it the cell is a number. Assumes nothing.
-use borrow.Author.Needs.{needs}
-use native.Mathlib.Omega.{arith}
-use Rattle.cell.specs.Steps.{adding, cell64}
-use Rattle.cell.proofs.CellMethods.{Number, number, is-mark as mark-read, room64, height-mark, height-fits, height-casts, height-is}
+use Rattle.cell.proofs.Common.{needs, arith, adding, cell64, Number, number, mark-read, room64, height-mark, height-fits, height-casts, height-is}
 use Rattle.cell.proofs.wide.Cell64.height.Statement.{statement}
 use Rattle.cell.proofs.wide.Cell64.height.Tie as tie
 

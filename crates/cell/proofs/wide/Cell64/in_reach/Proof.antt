@@ -1,7 +1,5 @@
 -- `Cell64::in_reach` meets its contract: the ends are those of the reach. Assumes nothing.
-use borrow.Author.Needs.{needs}
-use mathlib.Core.Path.{refl}
-use Rattle.rules.specs.Plan.{version1}
+use Rattle.cell.proofs.Common.{needs, refl, version1}
 use Rattle.cell.proofs.wide.Cell64.in_reach.Statement.{statement}
 use Rattle.cell.proofs.wide.Cell64.in_reach.Tie as tie
 

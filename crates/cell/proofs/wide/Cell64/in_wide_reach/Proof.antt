@@ -1,7 +1,5 @@
 -- `Cell64::in_wide_reach` meets its contract: the ends are those of the reach. Assumes nothing.
-use borrow.Author.Needs.{needs}
-use mathlib.Core.Path.{refl}
-use Rattle.cell.specs.Steps.{adding}
+use Rattle.cell.proofs.Common.{needs, refl, adding}
 use Rattle.cell.proofs.wide.Cell64.in_wide_reach.Statement.{statement}
 use Rattle.cell.proofs.wide.Cell64.in_wide_reach.Tie as tie
 

@@ -1,8 +1,5 @@
 -- `Cell64::is_mark` meets its contract: the bits are those of the mark where the cell is it. Assumes nothing.
-use mir.Syntax.{w64}
-use Rattle.whole.proofs.Bits.{fit}
-use Rattle.cell.specs.Steps.{adding}
-use Rattle.cell.proofs.CellMethods.{room64, mark-flag}
+use Rattle.cell.proofs.Common.{w64, fit, adding, room64, mark-flag}
 use Rattle.cell.proofs.wide.Cell64.is_mark.Statement.{statement}
 use Rattle.cell.proofs.wide.Cell64.is_mark.Tie as tie
 

@@ -1,9 +1,5 @@
 -- `Cell64::kept` meets its contract, by the two tests against the ends of the reach. Assumes nothing.
-use borrow.Author.Needs.{needs}
-use mathlib.Core.Path.{sym, _∙_}
-use Rattle.whole.proofs.Bits.{tested}
-use Rattle.cell.specs.Steps.{adding}
-use Rattle.cell.proofs.CellMethods.{room64, clamp-above, clamp-below, clamp-within}
+use Rattle.cell.proofs.Common.{needs, sym, _∙_, tested, adding, room64, clamp-above, clamp-below, clamp-within}
 use Rattle.cell.proofs.wide.Cell64.kept.Statement.{statement}
 use Rattle.cell.proofs.wide.Cell64.kept.Tie as tie
 

@@ -1,7 +1,5 @@
 -- `Cell64::larger` meets its contract, by the test that `less` makes. Assumes nothing.
-use borrow.Author.Needs.{needs}
-use Rattle.whole.specs.Signed.{larger}
-use Rattle.whole.proofs.Bits.{tested}
+use Rattle.cell.proofs.Common.{needs, larger, tested}
 use Rattle.cell.proofs.wide.Cell64.larger.Statement.{statement}
 use Rattle.cell.proofs.wide.Cell64.larger.Tie as tie
 

@@ -1,9 +1,5 @@
 -- `Cell64::lower` meets its contract: the mark stays, and past the test for it the cell is a number. Assumes nothing.
-use borrow.Author.Needs.{needs}
-use mathlib.Core.Path.{_∙_}
-use Rattle.whole.proofs.Bits.{tested}
-use Rattle.cell.specs.Steps.{adding}
-use Rattle.cell.proofs.CellMethods.{Number, number, is-mark, room64, lower-mark, lower-fits, lower-yes, lower-no}
+use Rattle.cell.proofs.Common.{needs, _∙_, tested, adding, Number, number, is-mark, room64, lower-mark, lower-fits, lower-yes, lower-no}
 use Rattle.cell.proofs.wide.Cell64.lower.Statement.{statement}
 use Rattle.cell.proofs.wide.Cell64.lower.Tie as tie
 

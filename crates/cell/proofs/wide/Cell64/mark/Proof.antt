@@ -1,6 +1,5 @@
 -- `Cell64::mark` meets its contract: the number is the mark of the ranges. Assumes nothing.
-use mathlib.Core.Path.{refl}
-use Rattle.cell.specs.Steps.{adding}
+use Rattle.cell.proofs.Common.{refl, adding}
 use Rattle.cell.proofs.wide.Cell64.mark.Statement.{statement}
 use Rattle.cell.proofs.wide.Cell64.mark.Tie as tie
 

@@ -1,13 +1,6 @@
 -- `Cell64::narrowed` meets its contract: the mark becomes the mark, and a number of the reach keeps its value. Assumes nothing.
-use borrow.Author.Needs.{needs}
-use mathlib.Core.Path.{_≡_, sym, _∙_}
-use mir.Syntax.{w64}
-use mir.Val.{SFits}
-use Rattle.whole.proofs.Bits.{signed, back, fit}
-use Rattle.rules.specs.Plan.{version1}
-use Rattle.rules.specs.Cells.{num, Within}
-use Rattle.cell.specs.Steps.{adding, cell64}
-use Rattle.cell.proofs.CellMethods.{is-mark, no-mark, cast-cell}
+use Rattle.cell.proofs.Common.{needs, _≡_, sym, _∙_, w64, SFits, signed, back, fit, version1, num, adding, cell64, is-mark, no-mark, cast-cell}
+use Rattle.rules.specs.Cells.{Within}
 use Rattle.cell.proofs.wide.Cell64.narrowed.Statement.{statement}
 use Rattle.cell.proofs.wide.Cell64.narrowed.Tie as tie
 

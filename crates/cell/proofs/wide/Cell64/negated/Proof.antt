@@ -1,7 +1,5 @@
 -- `Cell64::negated` meets its contract: the bits of the field and of the result are read back. Assumes nothing.
-use mir.Syntax.{w64}
-use lib.IntN.{+ℤ-idl}
-use Rattle.whole.proofs.Bits.{back, fit, negation-is}
+use Rattle.cell.proofs.Common.{w64, +ℤ-idl, back, fit, negation-is}
 use Rattle.cell.proofs.wide.Cell64.negated.Statement.{statement}
 use Rattle.cell.proofs.wide.Cell64.negated.Tie as tie
 

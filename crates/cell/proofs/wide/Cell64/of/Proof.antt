@@ -1,8 +1,5 @@
 -- `Cell64::of` meets its contract: a weight of the ranges fits. Assumes nothing.
-use native.Mathlib.Omega.{arith}
-use mir.Syntax.{w64}
-use Rattle.whole.proofs.Bits.{cast-pos, signed}
-use Rattle.cell.specs.Steps.{adding}
+use Rattle.cell.proofs.Common.{arith, w64, cast-pos, signed, adding}
 use Rattle.cell.proofs.wide.Cell64.of.Statement.{statement}
 use Rattle.cell.proofs.wide.Cell64.of.Tie as tie
 

@@ -1,7 +1,5 @@
 -- `Cell64::upper` meets its contract: the mark stays, and past the test for it the cell is a number. Assumes nothing.
-use borrow.Author.Needs.{needs}
-use Rattle.cell.specs.Steps.{adding}
-use Rattle.cell.proofs.CellMethods.{Number, number, is-mark, room64, upper-mark, upper-fits, negation-fits, upper-is}
+use Rattle.cell.proofs.Common.{needs, adding, Number, number, is-mark, room64, upper-mark, upper-fits, negation-fits, upper-is}
 use Rattle.cell.proofs.wide.Cell64.upper.Statement.{statement}
 use Rattle.cell.proofs.wide.Cell64.upper.Tie as tie
 

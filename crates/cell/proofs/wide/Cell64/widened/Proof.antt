@@ -1,13 +1,6 @@
 -- `Cell64::widened` meets its contract: the mark becomes the mark, and a number keeps its value. Assumes nothing.
-use borrow.Author.Needs.{needs}
-use mathlib.Core.Path.{_≡_, sym, _∙_}
-use mir.Syntax.{w32}
-use mir.Val.{SFits}
-use Rattle.whole.proofs.Bits.{signed, back, fit, kept}
-use Rattle.rules.specs.Plan.{version1}
-use Rattle.rules.specs.Cells.{num}
-use Rattle.cell.specs.Steps.{adding, cell32}
-use Rattle.cell.proofs.CellMethods.{is-mark, no-mark, cast-cell}
+use Rattle.cell.proofs.Common.{needs, _≡_, sym, _∙_, w32, SFits, signed, back, fit, version1, num, adding, cell32, is-mark, no-mark, cast-cell}
+use Rattle.whole.proofs.Bits.{kept}
 use Rattle.cell.proofs.wide.Cell64.widened.Statement.{statement}
 use Rattle.cell.proofs.wide.Cell64.widened.Tie as tie
 
