@@ -26,9 +26,9 @@ use Rattle.plan.proofs.SoundFile.{points-is, add-exactly}
 use Rattle.cell.specs.Steps.{adding}
 use Rattle.lowering.specs.Table.{Ready}
 use Rattle.lowering.specs.Fair.{AllWithin}
-use Rattle.lowering.proofs.Code.ReadyFile.{ready-points, ready-in-range, ready-links}
+use Rattle.lowering.proofs.Laws.ReadyFile.{ready-points, ready-in-range, ready-links}
 use Rattle.lowering.proofs.Theory.SweepsEnd.{kept-trans}
-use Rattle.lowering.proofs.Code.LinksAsRead.{few}
+use Rattle.lowering.proofs.Laws.LinksAsRead.{few}
 use Rattle.whole.proofs.Place.{square-le}
 use Rattle.scratch.specs.Swept.{strictPart, openPart, Both, Ended}
 use Rattle.scratch.specs.Begun.{Begun}

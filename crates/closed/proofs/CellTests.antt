@@ -13,7 +13,7 @@ use Rattle.rules.specs.Cells.{Cell, mark, num, _+ᶜ_, _≤ᶜ_, tableOf}
 use Rattle.cell.specs.Steps.{cell32, belowᶜ, Decides}
 use Rattle.cell.proofs.CellMethods.{decided-yes, decided-no, number-is, room32}
 use Rattle.cell.proofs.StoredCells.{≤ᶜ-refl, ≤ᶜ-antisym, ≤ᶜ-mark, not-below-le, le-not-below}
-use Rattle.lowering.proofs.Code.LoopTurns.{read-cell}
+use Rattle.lowering.proofs.Laws.LoopTurns.{read-cell}
 use Rattle.closed.specs.Parts.{RowJoined}
 
 -- a cell exceeds another where that one is below it, and only there

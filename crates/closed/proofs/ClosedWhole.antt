@@ -15,7 +15,7 @@ use Rattle.cell.proofs.StoredCells.{within-stored}
 use Rattle.lowering.specs.Table.{Sound, Ready}
 use Rattle.lowering.proofs.Theory.StillSweep.{AllLinks}
 use Rattle.lowering.proofs.Theory.FirstTables.{AllLimits}
-use Rattle.lowering.proofs.Code.ReadyFile.{ready-few, ready-points, ready-limit, ready-link, ready-limits, ready-links}
+use Rattle.lowering.proofs.Laws.ReadyFile.{ready-few, ready-points, ready-limit, ready-link, ready-limits, ready-links}
 use Rattle.closed.specs.Parts.{AllWithin, Alone, LimitHeld, LinkHeld, PairLowered, LinkLowered, LinkUppered, CaseHeld, StrictHeld, OpenHeld}
 
 -- the points are few enough for a table

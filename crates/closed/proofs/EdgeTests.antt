@@ -19,7 +19,7 @@ use Rattle.rules.specs.Cells.{Cell, num, _≤ᶜ_, lowered, uppered, Table, tab
 use Rattle.cell.specs.Steps.{cell32, Decides}
 use Rattle.cell.proofs.CellMethods.{decided-yes, decided-no, room32, negation-fits}
 use Rattle.cell.proofs.StoredCells.{spread-is}
-use Rattle.lowering.proofs.Code.LoopTurns.{read-cell}
+use Rattle.lowering.proofs.Laws.LoopTurns.{read-cell}
 use Rattle.closed.specs.Parts.{LinkHeld, PairLowered, PointUppered}
 use Rattle.closed.proofs.CellTests.{decides-same, weight-cell}
 

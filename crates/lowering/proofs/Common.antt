@@ -30,13 +30,13 @@ unfoldable pub use Rattle.lowering.specs.Spread.{caseEdge, lowerEdges, r
 pub use Rattle.lowering.specs.Sweep.{joinCell, joinRow, lowerCell}
 unfoldable pub use Rattle.lowering.specs.Sweep.{caseAll, caseLink, diagonalAll, firstOpen, heights, joinAll, joinMiddle, limitAll, limitCell}
 unfoldable pub use Rattle.lowering.specs.Sweep.{linkAll, lowerAll, lowerLink, openRow, startAll, upperAll, upperPoint}
-pub use Rattle.lowering.proofs.Code.FirstAsRead.{Marking, marking-all, marking-more, marking-none, span-cell}
-pub use Rattle.lowering.proofs.Code.LinksAsRead.{at-both, at-read, few, link-points, link-read, lowering-by}
-pub use Rattle.lowering.proofs.Code.LooksAtCells.{heights-more, heights-most, held-read, looked-also, looked-both, looked-no, looked-yes}
-pub use Rattle.lowering.proofs.Code.LooksAtCells.{low-unfair, negative-unfair, not-negative, sound-held, within-all}
-pub use Rattle.lowering.proofs.Code.LoopTurns.{Stretch, Turns, and-after, before-sound, here-sound, join-cell-is, join-row-is, lowering-is}
-pub use Rattle.lowering.proofs.Code.LoopTurns.{read-cell, read-stored, row-at-mark, stretch-all, stretch-more, stretch-none, turns-all}
-pub use Rattle.lowering.proofs.Code.LoopTurns.{turns-more, turns-none}
-pub use Rattle.lowering.proofs.Code.ReadyFile.{limit-range, link-range}
+pub use Rattle.lowering.proofs.Laws.FirstAsRead.{Marking, marking-all, marking-more, marking-none, span-cell}
+pub use Rattle.lowering.proofs.Laws.LinksAsRead.{at-both, at-read, few, link-points, link-read, lowering-by}
+pub use Rattle.lowering.proofs.Laws.LooksAtCells.{heights-more, heights-most, held-read, looked-also, looked-both, looked-no, looked-yes}
+pub use Rattle.lowering.proofs.Laws.LooksAtCells.{low-unfair, negative-unfair, not-negative, sound-held, within-all}
+pub use Rattle.lowering.proofs.Laws.LoopTurns.{Stretch, Turns, and-after, before-sound, here-sound, join-cell-is, join-row-is, lowering-is}
+pub use Rattle.lowering.proofs.Laws.LoopTurns.{read-cell, read-stored, row-at-mark, stretch-all, stretch-more, stretch-none, turns-all}
+pub use Rattle.lowering.proofs.Laws.LoopTurns.{turns-more, turns-none}
+pub use Rattle.lowering.proofs.Laws.ReadyFile.{limit-range, link-range}
 pub use Rattle.lowering.proofs.Theory.SpreadSteps.{spread-row-lowers}
 pub use Rattle.lowering.proofs.Theory.SweepSteps.{cell-lowers, diagonal-lowers, middle-lowers, row-lowers}

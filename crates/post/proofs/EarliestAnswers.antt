@@ -20,7 +20,7 @@ use Rattle.plan.specs.File.{fileAnswer}
 use Rattle.plan.proofs.SoundFile.{points-is, links-length}
 use Rattle.cell.proofs.StoredCells.{within-stored}
 use Rattle.lowering.specs.Table.{Sound, Ready}
-use Rattle.lowering.proofs.Code.ReadyFile.{ready-points, ready-in-range}
+use Rattle.lowering.proofs.Laws.ReadyFile.{ready-points, ready-in-range}
 use Rattle.post.specs.Lent.{Lent}
 use Rattle.post.specs.Lent as before
 use Rattle.post.proofs.JudgeAnswers.{Enough, ready-room}

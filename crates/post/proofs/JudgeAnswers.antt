@@ -23,7 +23,7 @@ use Rattle.plan.proofs.SoundFile.{points-is}
 use Rattle.lowering.specs.Table.{Ready}
 use Rattle.lowering.specs.Sweep.{markAll}
 use Rattle.tables.specs.Ends.{Refused}
-use Rattle.lowering.proofs.Code.ReadyFile.{ready-points}
+use Rattle.lowering.proofs.Laws.ReadyFile.{ready-points}
 use Rattle.lowering.proofs.Theory.FirstTables.{AllMark, marks}
 use Rattle.lowering.proofs.Theory.SweepsEnd.{marks-kept, kept-trans}
 use Rattle.post.specs.Lent.{Lent}

@@ -24,7 +24,7 @@ use Rattle.cell.specs.Steps.{adding, cell64}
 use Rattle.lowering.specs.Sweep.{lowerCell, markAll, diagonalAll, firstOpen, sweepStrict, sweepOpen}
 use Rattle.lowering.proofs.Theory.LoweredTables.{iter-lowered}
 use Rattle.lowering.proofs.Theory.FirstTables.{marks}
-use Rattle.lowering.proofs.Code.FirstAsRead.{marks-sound}
+use Rattle.lowering.proofs.Laws.FirstAsRead.{marks-sound}
 use Rattle.lowering.proofs.Theory.StillSweep.{AllLinks}
 use Rattle.lowering.proofs.Theory.SweepSteps.{diagonal-lowers}
 use Rattle.lowering.proofs.Theory.SweepsEnd.{Going, kept-trans, lowered-kept, marks-kept, going-on, going-open-lowered, going-ends, unfair-strict, unfair-open}

@@ -13,7 +13,7 @@ use Rattle.cell.specs.Steps.{adding}
 use Rattle.lowering.specs.Table.{Sound, Ready}
 use Rattle.lowering.specs.Sweep.{openAll, caseAll, joinAll, sweepStrict, sweepOpen, heights}
 use Rattle.lowering.specs.Fair.{Fair, Unfair}
-use Rattle.lowering.proofs.Code.LinksAsRead.{link-points}
+use Rattle.lowering.proofs.Laws.LinksAsRead.{link-points}
 use Rattle.lowering.proofs.Theory.LoweredTables.{Lowered}
 use Rattle.lowering.proofs.Theory.SweepSteps.{strict-lowers, open-lowers, open-sweep-lowers}
 use Rattle.lowering.proofs.Theory.HeightsFall.{lowered-heights, same-heights}

@@ -11,7 +11,7 @@ use Rattle.whole.proofs.Place.{inside}
 use Rattle.rules.specs.Plan.{Ranges}
 use Rattle.lowering.specs.Table.{Sound}
 use Rattle.lowering.proofs.Theory.LoweredTables.{Lowers}
-use Rattle.lowering.proofs.Code.LoopTurns.{Turns, turns-none, turns-more, turns-all}
+use Rattle.lowering.proofs.Laws.LoopTurns.{Turns, turns-none, turns-more, turns-all}
 use Rattle.lowering.specs.Sweep.{iter}
 use Rattle.scratch.specs.Swept.{strictPart, openPart, Both}
 

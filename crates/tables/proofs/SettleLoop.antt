@@ -21,8 +21,8 @@ use Rattle.lowering.specs.Fair.{Fair, Unfair}
 use Rattle.tables.specs.Ends.{Refused}
 use Rattle.lowering.proofs.Theory.LoweredTables.{Lowered}
 use Rattle.lowering.proofs.Theory.HeightsFall.{lowered-heights, same-heights}
-use Rattle.lowering.proofs.Code.LinksAsRead.{link-points}
-use Rattle.lowering.proofs.Code.ReadyFile.{ready-points, ready-few, ready-pointed, ready-weighted, ready-limits, ready-links}
+use Rattle.lowering.proofs.Laws.LinksAsRead.{link-points}
+use Rattle.lowering.proofs.Laws.ReadyFile.{ready-points, ready-few, ready-pointed, ready-weighted, ready-limits, ready-links}
 use Rattle.lowering.proofs.Theory.WalksKept.{has-open}
 use Rattle.lowering.proofs.Theory.SpreadSteps.{strict-round-lowered, open-round-lowered, case-edges-lowered}
 use Rattle.lowering.proofs.Theory.SweepsEnd.{lowered-kept, kept-trans, unfair-walk}

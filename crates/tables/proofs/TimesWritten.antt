@@ -21,7 +21,7 @@ use Rattle.rules.specs.Plan.{Plan, Ranges, version1}
 use Rattle.rules.specs.Cells.{mark, num, cellOf, tableOf}
 use Rattle.rules.specs.Calls.{Kept, TimesOf}
 use Rattle.cell.specs.Steps.{Stored, cell32}
-use Rattle.lowering.proofs.Code.LoopTurns.{read-cell}
+use Rattle.lowering.proofs.Laws.LoopTurns.{read-cell}
 
 -- a stored number is the mark at most, and the floor at least
 stored-most : (m reach : ℕ) (v : ℤ) → reach ≤ m → Stored reach (cellOf m v) → v ≤ℤ pos m

@@ -15,8 +15,8 @@ use Rattle.cell.proofs.CellMethods.{room64, weight-number}
 use Rattle.lowering.specs.Table.{Sound, Ready}
 use Rattle.lowering.specs.Sweep.{joinAll, lowerAll, caseAll, markAll}
 use Rattle.lowering.proofs.Theory.SweepSteps.{joins-lower, lower-lowers, case-lowers}
-use Rattle.lowering.proofs.Code.LinksAsRead.{link-points}
-use Rattle.lowering.proofs.Code.FirstAsRead.{marks-sound, weight-cell as weight-cell32}
+use Rattle.lowering.proofs.Laws.LinksAsRead.{link-points}
+use Rattle.lowering.proofs.Laws.FirstAsRead.{marks-sound, weight-cell as weight-cell32}
 use Rattle.wide.proofs.AddStart.{adding-coherent}
 
 -- a span as a cell

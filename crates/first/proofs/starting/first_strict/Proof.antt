@@ -1,7 +1,7 @@
 -- `starting::first_strict` meets its contract: the mark everywhere, then the diagonal, limits, start edges and links. Assumes nothing.
 use Rattle.lowering.proofs.Common.{needs, ap, _∙_, arith, square-le, version1, limitAt, linkAt, diagonalAll, limitAll, startAll, linkAll, few}
 use Rattle.lowering.specs.Sweep.{firstStrict}
-use Rattle.lowering.proofs.Code.StillStored.{sound-marks, sound-diagonal, sound-limits, sound-starts}
+use Rattle.lowering.proofs.Laws.StillStored.{sound-marks, sound-diagonal, sound-limits, sound-starts}
 use Rattle.first.proofs.starting.first_strict.Statement.{statement}
 use Rattle.first.proofs.starting.first_strict.Tie as tie
 

@@ -2,7 +2,7 @@
 use Rattle.lowering.proofs.Common.{needs, _-_, arith, version1, version1-coherent, limitAt, limitCell, limitAll, limit-range, few, at-read, Turns}
 use Rattle.lowering.proofs.Common.{turns-none, turns-more, turns-all}
 use Rattle.lowering.proofs.Theory.SweepSteps.{limit-lowers}
-use Rattle.lowering.proofs.Code.FirstAsRead.{limit-read}
+use Rattle.lowering.proofs.Laws.FirstAsRead.{limit-read}
 use Rattle.first.proofs.starting.limit_all.Statement.{statement}
 use Rattle.first.proofs.starting.limit_all.Tie as tie
 

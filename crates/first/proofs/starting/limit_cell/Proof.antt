@@ -1,6 +1,6 @@
 -- `starting::limit_cell` meets its contract: a weight in range is a number of a cell. Assumes nothing.
 use Rattle.lowering.proofs.Common.{needs, w32, toZ, ofZ, version1, limitCell, lowering-by}
-use Rattle.lowering.proofs.Code.FirstAsRead.{weight-cell}
+use Rattle.lowering.proofs.Laws.FirstAsRead.{weight-cell}
 use Rattle.first.proofs.starting.limit_cell.Statement.{statement}
 use Rattle.first.proofs.starting.limit_cell.Tie as tie
 

@@ -1,6 +1,6 @@
 -- `starting::link_edges` meets its contract: two cells lowered, to the longest span and to minus the shortest. Assumes nothing.
 use Rattle.lowering.proofs.Common.{needs, arith, version1, linkOf, span-cell}
-use Rattle.lowering.proofs.Code.FirstAsRead.{minus-fits, minus-cell, edges-are}
+use Rattle.lowering.proofs.Laws.FirstAsRead.{minus-fits, minus-cell, edges-are}
 use Rattle.first.proofs.starting.link_edges.Statement.{statement}
 use Rattle.first.proofs.starting.link_edges.Tie as tie
 

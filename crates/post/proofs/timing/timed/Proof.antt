@@ -1,6 +1,6 @@
 -- `timing::timed` meets its contract: Judge's refusal, or the times of the tables that it wrote. Assumes nothing.
 use Rattle.lowering.proofs.Common.{needs, _≤_, version1}
-use Rattle.lowering.proofs.Code.ReadyFile.{ready-few}
+use Rattle.lowering.proofs.Laws.ReadyFile.{ready-few}
 use Rattle.post.proofs.JudgeAnswers.{not-accepted, is-accepted}
 use Rattle.post.proofs.EarliestAnswers.{refused-timed, written-of, written-sound, timed-done}
 use Rattle.post.proofs.timing.timed.Statement.{statement}

@@ -2,7 +2,7 @@
 use Rattle.lowering.proofs.Common.{needs, _-_, arith, adding, openRow}
 use Rattle.lowering.specs.Sweep.{openCell}
 use Rattle.lowering.proofs.Theory.SweepSteps.{open-cell-lowers}
-use Rattle.lowering.proofs.Code.FirstAsRead.{open-cell-is}
+use Rattle.lowering.proofs.Laws.FirstAsRead.{open-cell-is}
 use Rattle.wide.proofs.AddStart.{adding-coherent}
 use Rattle.scratch.specs.Swept.{strictPart, openPart}
 use Rattle.scratch.proofs.ScratchParts.{half-room, part-read, Opening, opening-none, opening-more, opening-all, opening-both}

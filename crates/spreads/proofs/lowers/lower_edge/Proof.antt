@@ -1,6 +1,6 @@
 -- `lowers::lower_edge` meets its contract: nothing for a link's own contingent point, else an edge of what Lower yields. Assumes nothing.
 use Rattle.lowering.proofs.Common.{needs, refl, arith, version1, linkOf, spread-is, read-stored}
-use Rattle.lowering.proofs.Code.LinksAsRead.{lower-edge-own, lower-edge-is}
+use Rattle.lowering.proofs.Laws.LinksAsRead.{lower-edge-own, lower-edge-is}
 use Rattle.spreads.proofs.lowers.lower_edge.Statement.{statement}
 use Rattle.spreads.proofs.lowers.lower_edge.Tie as tie
 

@@ -1,6 +1,6 @@
 -- `spreading::new_edge` meets its contract: an edge that lowers its cell is taken, and any other changes nothing. Assumes nothing.
 use Rattle.lowering.proofs.Common.{needs, version1, cell32}
-use Rattle.lowering.proofs.Code.SpreadAsRead.{kept-stored, new-edge-is, new-edge-stays}
+use Rattle.lowering.proofs.Laws.SpreadAsRead.{kept-stored, new-edge-is, new-edge-stays}
 use Rattle.spreads.proofs.spreading.new_edge.Statement.{statement}
 use Rattle.spreads.proofs.spreading.new_edge.Tie as tie
 

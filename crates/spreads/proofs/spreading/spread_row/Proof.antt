@@ -1,6 +1,6 @@
 -- `spreading::spread_row` meets its contract: a row that the edge shortens is taken by the way over it, and any other stays. Assumes nothing.
 use Rattle.lowering.proofs.Common.{needs, version1, cell32, read-stored}
-use Rattle.lowering.proofs.Code.SpreadAsRead.{way-summed, spread-row-is, spread-row-stays}
+use Rattle.lowering.proofs.Laws.SpreadAsRead.{way-summed, spread-row-is, spread-row-stays}
 use Rattle.spreads.proofs.spreading.spread_row.Statement.{statement}
 use Rattle.spreads.proofs.spreading.spread_row.Tie as tie
 

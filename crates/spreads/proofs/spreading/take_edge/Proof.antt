@@ -1,6 +1,6 @@
 -- `spreading::take_edge` meets its contract: an edge that closes a walk below 0 is written to the diagonal, and any other is spread. Assumes nothing.
 use Rattle.lowering.proofs.Common.{needs, arith, version1, cell32, read-stored, span-cell}
-use Rattle.lowering.proofs.Code.SpreadAsRead.{take-edge-closes, take-edge-spreads}
+use Rattle.lowering.proofs.Laws.SpreadAsRead.{take-edge-closes, take-edge-spreads}
 use Rattle.spreads.proofs.spreading.take_edge.Statement.{statement}
 use Rattle.spreads.proofs.spreading.take_edge.Tie as tie
 

@@ -1,6 +1,6 @@
 -- `uppers::upper_edge` meets its contract: an edge of what Upper yields. Assumes nothing.
 use Rattle.lowering.proofs.Common.{needs, refl, arith, version1, linkOf, read-stored}
-use Rattle.lowering.proofs.Code.LinksAsRead.{upper-edge-is}
+use Rattle.lowering.proofs.Laws.LinksAsRead.{upper-edge-is}
 use Rattle.spreads.proofs.uppers.upper_edge.Statement.{statement}
 use Rattle.spreads.proofs.uppers.upper_edge.Tie as tie
 

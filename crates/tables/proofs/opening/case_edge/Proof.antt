@@ -1,6 +1,6 @@
 -- `opening::case_edge` meets its contract: the shortest span is a number of a cell. Assumes nothing.
 use Rattle.lowering.proofs.Common.{needs, arith, version1, caseEdge, span-cell}
-use Rattle.lowering.proofs.Code.SpreadAsRead.{edge-by}
+use Rattle.lowering.proofs.Laws.SpreadAsRead.{edge-by}
 use Rattle.tables.proofs.opening.case_edge.Statement.{statement}
 use Rattle.tables.proofs.opening.case_edge.Tie as tie
 

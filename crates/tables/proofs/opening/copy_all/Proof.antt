@@ -1,7 +1,7 @@
 -- `opening::copy_all` meets its contract: a turn for each cell. Assumes nothing.
 use Rattle.lowering.proofs.Common.{needs, _-_, arith, getD, pos, w32, toZ, ofZ, back}
 use borrow.Author.Needs.{sfits-of}
-use Rattle.lowering.proofs.Code.FirstAsRead.{Copying, copying-none, copying-more, copying-all}
+use Rattle.lowering.proofs.Laws.FirstAsRead.{Copying, copying-none, copying-more, copying-all}
 use Rattle.tables.proofs.opening.copy_all.Statement.{statement}
 use Rattle.tables.proofs.opening.copy_all.Tie as tie
 

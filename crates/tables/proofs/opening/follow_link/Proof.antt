@@ -1,7 +1,7 @@
 -- `opening::follow_link` meets its contract: Lower and then Upper. Assumes nothing.
 use Rattle.lowering.proofs.Common.{needs, version1, linkAt, few, link-read}
-use Rattle.lowering.proofs.Code.LinksAsRead.{follow-link-is}
-use Rattle.lowering.proofs.Code.StillStored.{sound-follow-lowers}
+use Rattle.lowering.proofs.Laws.LinksAsRead.{follow-link-is}
+use Rattle.lowering.proofs.Laws.StillStored.{sound-follow-lowers}
 use Rattle.tables.proofs.opening.follow_link.Statement.{statement}
 use Rattle.tables.proofs.opening.follow_link.Tie as tie
 

@@ -1,6 +1,6 @@
 -- `opening::follow_lower` meets its contract: an edge of the strict cell that was read. Assumes nothing.
 use Rattle.lowering.proofs.Common.{needs, version1, linkOf}
-use Rattle.lowering.proofs.Code.LinksAsRead.{follow-lower-is}
+use Rattle.lowering.proofs.Laws.LinksAsRead.{follow-lower-is}
 use Rattle.tables.proofs.opening.follow_lower.Statement.{statement}
 use Rattle.tables.proofs.opening.follow_lower.Tie as tie
 

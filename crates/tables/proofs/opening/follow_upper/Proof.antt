@@ -1,6 +1,6 @@
 -- `opening::follow_upper` meets its contract: an edge of the strict cell that was read. Assumes nothing.
 use Rattle.lowering.proofs.Common.{needs, version1, linkOf}
-use Rattle.lowering.proofs.Code.LinksAsRead.{follow-upper-is}
+use Rattle.lowering.proofs.Laws.LinksAsRead.{follow-upper-is}
 use Rattle.tables.proofs.opening.follow_upper.Statement.{statement}
 use Rattle.tables.proofs.opening.follow_upper.Tie as tie
 

@@ -1,6 +1,6 @@
 -- `settling::joined_strict` meets its contract: the given edges, and joins. Assumes nothing.
 use Rattle.lowering.proofs.Common.{needs, ap, _∙_, version1, joinAll, few}
-use Rattle.lowering.proofs.Code.StillStored.{sound-first}
+use Rattle.lowering.proofs.Laws.StillStored.{sound-first}
 use Rattle.tables.proofs.settling.joined_strict.Statement.{statement}
 use Rattle.tables.proofs.settling.joined_strict.Tie as tie
 

@@ -1,7 +1,7 @@
 -- `settling::strict_round` meets its contract: Lower, then Upper. Assumes nothing.
 use Rattle.lowering.proofs.Common.{needs, ap, _∙_, version1, linkAt, upperRound}
 use Rattle.lowering.specs.Spread.{strictRound}
-use Rattle.lowering.proofs.Code.StillStored.{sound-lower-round}
+use Rattle.lowering.proofs.Laws.StillStored.{sound-lower-round}
 use Rattle.tables.proofs.settling.strict_round.Statement.{statement}
 use Rattle.tables.proofs.settling.strict_round.Tie as tie
 

@@ -9,6 +9,10 @@ Inv-loop t count sum₀ i₀ sum i = (i ≤ count) × (sum ≡ heights adding i 
 abbrev μ-loop : tie.MeasureT-loop
 μ-loop t count sum₀ i₀ sum i = count - i
 
+loop-holds : tie.Need-loop-holds Inv-loop μ-loop
+unfolding heights
+loop-holds c = (omega arith, refl)
+
 height-requires : tie.Need-height-requires Inv-loop μ-loop
 height-requires c κs =
     let s = c .before .before .before in
@@ -34,11 +38,10 @@ loop-again c =
     (omega arith, heights-more adding (s .args .t .now) (loop .i) (cell-at .ensures) (height .ensures) (loop .inv .1))
 
 pub height-all-spec : {M : Type 1} → statement M
-unfolding heights
 height-all-spec =
     tie.close
     (tie.spec Inv-loop μ-loop
-    (λ c. (omega arith, refl))
+    loop-holds
     (λ c κs. omega (arith, c .before .before .pre .1 .room, c .loop-test .taken))
     height-requires add-sum (λ c. search needs) (λ c. search needs) loop-again
     (λ c. c .before .loop .inv .1 ∙ ap (λ i. heights adding i (c .before .before .args .t .now)) (omega arith)))

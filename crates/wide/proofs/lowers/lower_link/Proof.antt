@@ -3,7 +3,7 @@ use Rattle.lowering.proofs.Common.{_-_, arith, adding, linkAt, lowerLink, Turns
 use Rattle.wide.proofs.AddStart.{adding-coherent}
 use Rattle.lowering.specs.Sweep.{lowerPair}
 use Rattle.lowering.proofs.Theory.SweepSteps.{pair-lowers}
-use Rattle.lowering.proofs.Code.LinksAsRead.{pair-at}
+use Rattle.lowering.proofs.Laws.LinksAsRead.{pair-at}
 use Rattle.wide.proofs.lowers.lower_link.Statement.{statement}
 use Rattle.wide.proofs.lowers.lower_link.Tie as tie
 

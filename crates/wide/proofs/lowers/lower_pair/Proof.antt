@@ -1,6 +1,6 @@
 -- `lowers::lower_pair` meets its contract: nothing for a link's own contingent point, else one cell lowered to what Lower yields. Assumes nothing.
 use Rattle.lowering.proofs.Common.{refl, arith, adding, linkOf, spread-is, read-stored, needs}
-use Rattle.lowering.proofs.Code.LinksAsRead.{pair-own, pair-is}
+use Rattle.lowering.proofs.Laws.LinksAsRead.{pair-own, pair-is}
 use Rattle.wide.proofs.AddStart.{weights-held}
 use Rattle.wide.proofs.lowers.lower_pair.Statement.{statement}
 use Rattle.wide.proofs.lowers.lower_pair.Tie as tie

@@ -1,6 +1,6 @@
 -- `uppers::upper_cell` meets its contract: one cell lowered to what Upper yields. Assumes nothing.
 use Rattle.lowering.proofs.Common.{refl, arith, adding, linkOf, read-stored, needs}
-use Rattle.lowering.proofs.Code.LinksAsRead.{upper-cell-is}
+use Rattle.lowering.proofs.Laws.LinksAsRead.{upper-cell-is}
 use Rattle.wide.proofs.AddStart.{weights-held}
 use Rattle.wide.proofs.uppers.upper_cell.Statement.{statement}
 use Rattle.wide.proofs.uppers.upper_cell.Tie as tie

@@ -20,7 +20,7 @@ use Rattle.cell.proofs.StoredCells.{not-below-le}
 use Rattle.lowering.specs.Table.{Sound, Held}
 use Rattle.lowering.specs.Sweep.{heights}
 use Rattle.lowering.specs.Fair.{AllWithin, NoneNegative, Fair, Unfair, low, negative, Looked}
-use Rattle.lowering.proofs.Code.LoopTurns.{read-cell}
+use Rattle.lowering.proofs.Laws.LoopTurns.{read-cell}
 
 -- ---- what a look says
 

@@ -13,7 +13,7 @@ use Rattle.cell.proofs.CellMethods.{summed}
 use Rattle.cell.proofs.StoredCells.{clamped-stored}
 use Rattle.lowering.specs.Sweep.{lowerCell}
 use Rattle.lowering.specs.Spread.{rowBy, spreadRow, spreadAll, takeEdge, newEdge}
-use Rattle.lowering.proofs.Code.LoopTurns.{read-cell}
+use Rattle.lowering.proofs.Laws.LoopTurns.{read-cell}
 
 -- a test of two cells, with the cells as they stand in the table
 below-read : {a b c d : Cell} {f v : Bool} → f ≡ belowᶜ a b → a ≡ c → b ≡ d → f ≡ v → belowᶜ c d ≡ v

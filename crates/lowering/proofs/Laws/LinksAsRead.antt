@@ -12,9 +12,9 @@ use Rattle.plan.specs.Layout.{linkAt}
 use Rattle.lowering.specs.Table.{Ready}
 use Rattle.lowering.specs.Sweep.{lowerCell, lowerPair, upperCell}
 use Rattle.lowering.specs.Spread.{newEdge, lowerEdge, upperEdge, followLower, followLowers, followUpper, followUppers, followLink}
-use Rattle.lowering.proofs.Code.ReadyFile.{link-range, ready-few}
-use Rattle.lowering.proofs.Code.LoopTurns.{read-cell}
-use Rattle.lowering.proofs.Code.SpreadAsRead.{edge-by}
+use Rattle.lowering.proofs.Laws.ReadyFile.{link-range, ready-few}
+use Rattle.lowering.proofs.Laws.LoopTurns.{read-cell}
+use Rattle.lowering.proofs.Laws.SpreadAsRead.{edge-by}
 use Rattle.lowering.proofs.Theory.SweepSteps.{LinkPoints}
 
 -- a link that was read is in range

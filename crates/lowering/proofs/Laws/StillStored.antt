@@ -15,9 +15,9 @@ use Rattle.lowering.specs.Spread.{lowerRound, followLowers}
 use Rattle.lowering.proofs.Theory.LoweredTables.{iter-lowered}
 use Rattle.lowering.proofs.Theory.SweepSteps.{diagonal-lowers, start-lowers, limit-lowers, edges-lowers}
 use Rattle.lowering.proofs.Theory.SpreadSteps.{lower-round-lowered, follow-lowers-lowers}
-use Rattle.lowering.proofs.Code.ReadyFile.{limit-range}
-use Rattle.lowering.proofs.Code.LinksAsRead.{link-points}
-use Rattle.lowering.proofs.Code.FirstAsRead.{marks-sound}
+use Rattle.lowering.proofs.Laws.ReadyFile.{limit-range}
+use Rattle.lowering.proofs.Laws.LinksAsRead.{link-points}
+use Rattle.lowering.proofs.Laws.FirstAsRead.{marks-sound}
 
 pub sound-marks : {n : ℕ} (t : List ℤ) {u : List ℤ} → n * n ≤ length t → u ≡ markAll version1 (n * n) t → Sound version1 n u
 sound-marks {n} t h e = rw e (marks-sound version1 n t h)

@@ -23,10 +23,10 @@ use Rattle.cell.proofs.CellMethods.{room32, in-range, weight-number, negation-f
 use Rattle.lowering.specs.Table.{Sound, Ready}
 use Rattle.lowering.specs.Sweep.{lowerCell, markAll, openCell, linkEdges}
 use Rattle.lowering.specs.Spread.{Copied}
-use Rattle.lowering.proofs.Code.LoopTurns.{read-cell}
-use Rattle.lowering.proofs.Code.LinksAsRead.{lowering-by}
+use Rattle.lowering.proofs.Laws.LoopTurns.{read-cell}
+use Rattle.lowering.proofs.Laws.LinksAsRead.{lowering-by}
 use Rattle.lowering.proofs.Theory.FirstTables.{marks-walked}
-use Rattle.lowering.proofs.Code.ReadyFile.{limit-range}
+use Rattle.lowering.proofs.Laws.ReadyFile.{limit-range}
 
 -- ---- the mark
 
