@@ -13,6 +13,6 @@ unfoldable pub use Rattle.rules.specs.Plan.{version1}
 pub use Rattle.cell.specs.Steps.{cell32, cell64}
 unfoldable pub use Rattle.cell.specs.Steps.{adding}
 pub use Rattle.cell.proofs.CellMethods.{Number, below-flag, cast-cell, clamp-above, clamp-below, clamp-within, height-casts, height-fits}
-pub use Rattle.cell.proofs.CellMethods.{height-is, height-mark, is-mark, is-mark as mark-read, join-left, join-right, lower-fits, lower-mark}
+pub use Rattle.cell.proofs.CellMethods.{height-is, height-mark, is-mark, join-left, join-right, lower-fits, lower-mark}
 pub use Rattle.cell.proofs.CellMethods.{lower-no, lower-yes, mark-flag, negation-fits, no-mark, number, reach-above, reach-below, reach-mark}
 pub use Rattle.cell.proofs.CellMethods.{reach-within, room32, room64, upper-fits, upper-is, upper-mark}

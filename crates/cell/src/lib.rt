@@ -1,5 +1,5 @@
 // One cell of a table by value: the no-path mark or a number. Here a cell of the paper's tables, 32 bits wide; its 64-bit twin is in
-// wide.rt, and both rest on the same laws (proofs/Laws.antt). What a method computes is said on the cells of the paper (specs/Cells.antt
+// wide.rt, and both rest on the same laws (proofs/CellMethods.antt). What a method computes is said on the cells of the paper (specs/Cells.antt
 // of `rules`) and by specs/Steps.antt. A cell that a sweep holds is the mark, or a number from one under the reach to the reach.
 pub mod wide;
 

@@ -1,19 +1,10 @@
 -- `Cell64::between` meets its contract: the mark is in every reach, and a number where no test against an end holds. Assumes nothing.
-use Rattle.cell.proofs.Common.{needs, _≡_, tested, num, adding, cell64, is-mark, no-mark, reach-mark, reach-above, reach-below, reach-within}
+use Rattle.cell.proofs.Common.{needs, _≡_, tested, num, cell64, is-mark, no-mark, reach-mark, reach-above, reach-below, reach-within}
 use Rattle.cell.proofs.wide.Cell64.between.Statement.{statement}
 use Rattle.cell.proofs.wide.Cell64.between.Tie as tie
 
 cell : (c : tie.Else1) → cell64 (c .before .before .args .self .v) ≡ num (c .before .before .args .self .v)
-cell c = no-mark (adding .mark) (c .before .before .args .self .v) (c .before .is-mark .ensures) (c .if1 .left)
-
-returns : tie.Need-returns
-returns c n el em = reach-mark n (cell64 (c .before .before .args .self .v)) (is-mark (c .before .is-mark .ensures) (c .if1 .taken))
-
-returns-2 : tie.Need-returns-2
-returns-2 c n el em = reach-above n (cell (c .before .before)) (rw em at (tested (c .before .less .ensures) (c .if2 .taken)))
-
-returns-3 : tie.Need-returns-3
-returns-3 c n el em = reach-below n (cell (c .before .before .before .before)) (rw el at (tested (c .before .less2 .ensures) (c .if3 .taken)))
+cell c = search no-mark
 
 returns-4 : tie.Need-returns-4
 returns-4 c n el em =
@@ -25,5 +16,8 @@ returns-4 c n el em =
 pub between-spec : {M : Type 1} → statement M
 between-spec =
     tie.close
-    (tie.spec (λ c κs. search needs) returns (λ c κs. search needs) returns-2 (λ c κs. search needs) returns-3
+    (tie.spec (λ c κs. search needs) (λ c n el em. search (reach-mark, is-mark)) (λ c κs. search needs)
+    (λ c n el em. reach-above n (cell (c .before .before)) (rw em at (tested (c .before .less .ensures) (c .if2 .taken))))
+    (λ c κs. search needs)
+    (λ c n el em. search (reach-below n (cell (c .before .before .before .before)), rw el at (tested (c .before .less2 .ensures) (c .if3 .taken))))
     returns-4)

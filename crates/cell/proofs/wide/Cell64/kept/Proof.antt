@@ -3,30 +3,9 @@ use Rattle.cell.proofs.Common.{needs, sym, _∙_, tested, adding, room6
 use Rattle.cell.proofs.wide.Cell64.kept.Statement.{statement}
 use Rattle.cell.proofs.wide.Cell64.kept.Tie as tie
 
-returns : tie.Need-returns
-unfolding adding
-returns c =
-    let s = c .before in
-    let f = tested (s .before .less .ensures) (s .if1 .taken) in
-    c .mark .ensures ∙ sym (clamp-above room64 (s .before .before .args .self .v) f)
-
-returns-2 : tie.Need-returns-2
-unfolding adding
-returns-2 c =
-    let s = c .before .before in
-    let f = tested (s .before .less .ensures) (s .if1 .left) in
-    let g = tested (c .before .less2 .ensures) (c .if2 .taken) in
-    sym (clamp-below room64 (s .before .before .args .self .v) f g)
-
-returns-3 : tie.Need-returns-3
-unfolding adding
-returns-3 c =
-    let s = c .before .before in
-    let f = tested (s .before .less .ensures) (s .if1 .left) in
-    let g = tested (c .before .less2 .ensures) (c .if2 .left) in
-    sym (clamp-within room64 (s .before .before .args .self .v) f g)
-
 pub kept-spec : {M : Type 1} → statement M
+unfolding adding
 kept-spec =
     tie.close
-    (tie.spec (λ c κs. search needs) (λ c κs. search needs) returns (λ c κs. search needs) returns-2 returns-3)
+    (tie.spec (λ c κs. search needs) (λ c κs. search needs) (λ c. search (clamp-above room64, tested, sym, _∙_))
+    (λ c κs. search needs) (λ c. search (clamp-below room64, tested, sym)) (λ c. search (clamp-within room64, tested, sym)))

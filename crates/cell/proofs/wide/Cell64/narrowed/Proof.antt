@@ -1,11 +1,11 @@
 -- `Cell64::narrowed` meets its contract: the mark becomes the mark, and a number of the reach keeps its value. Assumes nothing.
-use Rattle.cell.proofs.Common.{needs, _≡_, sym, _∙_, w64, SFits, signed, back, fit, version1, num, adding, cell64, is-mark, no-mark, cast-cell}
+use Rattle.cell.proofs.Common.{needs, _≡_, sym, _∙_, w64, SFits, signed, back, fit, version1, num, cell64, is-mark, no-mark, cast-cell}
 use Rattle.rules.specs.Cells.{Within}
 use Rattle.cell.proofs.wide.Cell64.narrowed.Statement.{statement}
 use Rattle.cell.proofs.wide.Cell64.narrowed.Tie as tie
 
 cell : (c : tie.Else1) → cell64 (c .before .before .args .self .v) ≡ num (c .before .before .args .self .v)
-cell c = no-mark (adding .mark) (c .before .before .args .self .v) (c .before .is-mark .ensures) (c .if1 .left)
+cell c = search no-mark
 
 range : (c : tie.Else1) → Within (version1 .reach) (num (c .before .before .args .self .v))
 range c = rw (cell c) at (c .before .before .pre)
@@ -25,5 +25,5 @@ pub narrowed-spec : {M : Type 1} → statement M
 narrowed-spec =
     tie.close
     (tie.spec (λ c κs. search needs) (λ c κs. search needs)
-    (λ c. c .mark .ensures ∙ sym (is-mark (c .before .before .is-mark .ensures) (c .before .if1 .taken)))
+    (λ c. search (c .mark .ensures, is-mark, sym, _∙_))
     cast-t3 returns-2)

@@ -1,11 +1,11 @@
 -- `Cell64::widened` meets its contract: the mark becomes the mark, and a number keeps its value. Assumes nothing.
-use Rattle.cell.proofs.Common.{needs, _≡_, sym, _∙_, w32, SFits, signed, back, fit, version1, num, adding, cell32, is-mark, no-mark, cast-cell}
+use Rattle.cell.proofs.Common.{needs, _≡_, sym, _∙_, w32, SFits, signed, back, fit, num, adding, cell32, is-mark, no-mark, cast-cell}
 use Rattle.whole.proofs.Bits.{kept}
 use Rattle.cell.proofs.wide.Cell64.widened.Statement.{statement}
 use Rattle.cell.proofs.wide.Cell64.widened.Tie as tie
 
 cell : (c : tie.Else1) → cell32 (c .before .before .args .c .v) ≡ num (c .before .before .args .c .v)
-cell c = no-mark (version1 .mark) (c .before .before .args .c .v) (c .before .is-mark .ensures) (c .if1 .left)
+cell c = search no-mark
 
 fits : (c : tie.After-struct-told) → SFits w32 (c .before .before .before .before .args .c .v)
 fits c = fit w32 (c .before .before .before .before .args .c .v) (c .struct-told .given .0 .1)
@@ -18,6 +18,6 @@ pub widened-spec : {M : Type 1} → statement M
 widened-spec =
     tie.close
     (tie.spec (λ c κs. search needs) (λ c κs. search needs)
-    (λ c. c .mark .ensures ∙ sym (is-mark (c .before .before .is-mark .ensures) (c .before .if1 .taken)))
+    (λ c. search (c .mark .ensures, is-mark, sym, _∙_))
     (λ c. rw (back (fits c)) (omega (signed, kept (fits c))))
     returns-2)
