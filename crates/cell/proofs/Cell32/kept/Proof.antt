@@ -7,5 +7,8 @@ pub kept-spec : {M : Type 1} → statement M
 unfolding version1
 kept-spec =
     tie.close
-    (tie.spec (λ c κs. search needs) (λ c κs. search needs) (λ c. search (clamp-above room32, tested, sym, _∙_))
-    (λ c κs. search needs) (λ c. search (clamp-below room32, tested, sym)) (λ c. search (clamp-within room32, tested, sym)))
+    (tie.spec (λ c κs. search needs) (λ c κs. search needs)
+    (λ c. c .mark .ensures ∙ sym (clamp-above room32 (c .before .before .before .args .self .v) (search tested)))
+    (λ c κs. search needs)
+    (λ c. sym (clamp-below room32 (c .before .before .before .before .args .self .v) (search tested) (search tested)))
+    (λ c. sym (clamp-within room32 (c .before .before .before .before .args .self .v) (search tested) (search tested))))

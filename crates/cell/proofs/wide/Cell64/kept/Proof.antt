@@ -7,5 +7,8 @@ pub kept-spec : {M : Type 1} → statement M
 unfolding adding
 kept-spec =
     tie.close
-    (tie.spec (λ c κs. search needs) (λ c κs. search needs) (λ c. search (clamp-above room64, tested, sym, _∙_))
-    (λ c κs. search needs) (λ c. search (clamp-below room64, tested, sym)) (λ c. search (clamp-within room64, tested, sym)))
+    (tie.spec (λ c κs. search needs) (λ c κs. search needs)
+    (λ c. c .mark .ensures ∙ sym (clamp-above room64 (c .before .before .before .args .self .v) (search tested)))
+    (λ c κs. search needs)
+    (λ c. sym (clamp-below room64 (c .before .before .before .before .args .self .v) (search tested) (search tested)))
+    (λ c. sym (clamp-within room64 (c .before .before .before .before .args .self .v) (search tested) (search tested))))
