@@ -5,6 +5,9 @@ pub mod LoweredTables
 pub mod HeightsFall
 pub mod WalksKept
 pub mod SweepSteps
+pub mod StepsTaken
+pub mod LinkRules
+pub mod SweepsTaken
 pub mod StillSweep
 pub mod FirstTables
 pub mod SweepsEnd

@@ -20,17 +20,17 @@ use Rattle.cell.proofs.StoredCells.{≤ᶜ-trans, ≤ᶜ-antisym}
 use Rattle.lowering.specs.Table.{Sound}
 use Rattle.lowering.specs.Fair.{Fair}
 use Rattle.lowering.specs.Sweep.{joinAll, firstStrict, firstOpen}
-use Rattle.lowering.specs.Spread.{Copied, caseEdges}
-use Rattle.lowering.proofs.Theory.LoweredTables.{Lowered}
-use Rattle.lowering.proofs.Theory.SweepSteps.{joins-lower}
-use Rattle.lowering.proofs.Theory.WalksKept.{Has, has-open, Walked, joins-walked}
-use Rattle.lowering.proofs.Theory.SpreadSteps.{case-edges-lowered}
+use Rattle.lowering.specs.Spread.{Copied, newEdge, caseEdges}
+use Rattle.lowering.proofs.Theory.WalksKept.{Has, has-open, Walked}
+use Rattle.lowering.proofs.Theory.StepsTaken.{Taken, Puts, taken-none, keeps, reaches, rule-reaches}
+use Rattle.lowering.proofs.Theory.LinkRules.{case-rule}
+use Rattle.lowering.proofs.Theory.SweepsTaken.{joins-keep}
 use Rattle.lowering.proofs.Theory.StillSweep.{AllLinks}
 use Rattle.lowering.proofs.Theory.FirstTables.{AllLimits}
 use Rattle.lowering.proofs.Theory.SweepsEnd.{Going, first-given, first-going, first-strict-kept, lowered-kept, kept-trans}
 use Rattle.lowering.proofs.Theory.OneJoinPass.{warshall-full, warshall-joined}
 use Rattle.lowering.proofs.Theory.SpreadKeepsJoined.{Shut, stored-under}
-use Rattle.lowering.proofs.Theory.RoundsEnd.{Carried, Rounds, cases-carried, cases-reach}
+use Rattle.lowering.proofs.Theory.RoundsEnd.{Carried, Rounds, open-edges, case-steps}
 
 -- a walk of given edges is one of derivable edges
 has-derivable : (p : Plan) (x y : ℕ) (c : Cell) → Has (Given p) x y c → Has (Derivable p) x y c
@@ -68,20 +68,20 @@ module _ (p : Plan) (r : Ranges) (h : Coherent r) (g : Pointed p) (b : Weighted 
 
   walked : Walked (Given p) r (p .points) first
   unfolding first
-  walked = first-given p r h g b limit limits al link links ak t room
+  walked = first-given p r h g b limit limits al link links ak t room .holds
 
   going : Going p r first (firstOpen r (p .points) t)
   unfolding first
   going = first-going p r h g b limit limits al link links ak t t room room
 
-  low : Lowered r (p .points) first joined
+  pass : Taken (Walked (Given p) r (p .points)) r (p .points) first joined
   unfolding joined
-  low = joins-lower r h (p .points) first (walked .sound)
+  pass = joins-keep (Given p) r h (p .points) first walked
 
   -- past the room it is as it was
   pub joined-kept : Kept (p .points * p .points) t (joinAll r (p .points) (firstStrict r (p .points) limit limits link links t))
   unfolding joined first
-  joined-kept = kept-trans (first-strict-kept p r h g b limit limits al link links ak t room) (lowered-kept low)
+  joined-kept = kept-trans (first-strict-kept p r h g b limit limits al link links ak t room) (lowered-kept (pass .low))
 
   -- under every given edge
   pub joined-given : (x y : ℕ) (w : ℤ) → Given p x y w
@@ -89,24 +89,23 @@ module _ (p : Plan) (r : Ranges) (h : Coherent r) (g : Pointed p) (b : Weighted 
   unfolding joined first
   joined-given x y w e =
       let q : Ends p x y = given-ends p g e in
-      ≤ᶜ-trans (tableOf r (p .points) joined x y) (tableOf r (p .points) first x y) (num w) (low .down x y (q .from) (q .to)) (going .given-below x y w e)
+      ≤ᶜ-trans (tableOf r (p .points) joined x y) (tableOf r (p .points) first x y) (num w) (pass .low .down x y (q .from) (q .to)) (going .given-below x y w e)
 
   -- and as rounds carry it
   pub joined-carried : Carried (Derivable p) p r (joinAll r (p .points) (firstStrict r (p .points) limit limits link links t))
   unfolding joined first
   joined-carried =
-      let w : Walked (Given p) r (p .points) joined = joins-walked (Given p) r h (p .points) first walked in
       record {
         walks = record {
-          sound = w .sound;
-          has = λ x y hx hy. has-derivable p x y (tableOf r (p .points) joined x y) (w .has x y hx hy);
+          sound = pass .low .sound;
+          has = λ x y hx hy. has-derivable p x y (tableOf r (p .points) joined x y) (pass .holds .has x y hx hy);
         };
         full = λ x z s hx hz k. warshall-full p r h g b few first walked (going .given-below) (going .strict-diagonal) hx hz k;
         shut = λ f.
             record {
               zeros = λ x hx.
                   ≤ᶜ-antisym (tableOf r (p .points) joined x x) (num (pos zero))
-                  (≤ᶜ-trans (tableOf r (p .points) joined x x) (tableOf r (p .points) first x x) (num (pos zero)) (low .down x x hx hx)
+                  (≤ᶜ-trans (tableOf r (p .points) joined x x) (tableOf r (p .points) first x x) (num (pos zero)) (pass .low .down x x hx hx)
                   (going .strict-diagonal x hx))
                   (f .diagonal x hx);
               join = warshall-joined p r h g b few first walked (going .given-below) (going .strict-diagonal) f;
@@ -145,34 +144,41 @@ module _ (p : Plan) (r : Ranges) (h : Coherent r) (g : Pointed p) (link : ℕ �
             };
       }
 
-  cases-low : Lowered r (p .points) v (caseEdges r (p .points) link count v)
-  cases-low = case-edges-lowered r h (p .points) link count (l .links .points) v (copied-carried .walks .sound)
+  taking : Puts (Open p) r (p .points) (Carried (Open p) p r) (Fair r (p .points)) (newEdge r (p .points))
+  taking = open-edges p r h link count (l .links)
 
-  -- under the strict table
+  -- with every lower-case edge taken
+  pub cases-taken : Taken (Carried (Open p) p r) r (p .points) v (caseEdges r (p .points) link count v)
+  cases-taken = keeps taking (case-steps p r h link count (l .links)) v copied-carried
+
+  -- it is under the strict table
   cases-under : (x y : ℕ) → x < p .points → y < p .points
       → tableOf r (p .points) (caseEdges r (p .points) link count v) x y ≤ᶜ tableOf r (p .points) strict x y
   cases-under x y hx hy =
-      subst (λ (d : Cell). tableOf r (p .points) (caseEdges r (p .points) link count v) x y ≤ᶜ d) (cell x y hx hy) (cases-low .down x y hx hy)
+      subst (λ (d : Cell). tableOf r (p .points) (caseEdges r (p .points) link count v) x y ≤ᶜ d) (cell x y hx hy) (cases-taken .low .down x y hx hy)
 
   -- and under what is stored of it
   cases-stored : (x y : ℕ) → x < p .points → y < p .points
       → tableOf r (p .points) (caseEdges r (p .points) link count v) x y ≤ᶜ clamped (r .reach) (tableOf r (p .points) strict x y)
   cases-stored x y hx hy =
       stored-under (r .reach) (tableOf r (p .points) (caseEdges r (p .points) link count v) x y) (tableOf r (p .points) strict x y)
-      (cases-low .sound .stored x y hx hy) (cases-under x y hx hy)
+      (cases-taken .low .sound .stored x y hx hy) (cases-under x y hx hy)
 
   -- both stand as before a round
   pub rounds-first : Rounds p r link count strict (caseEdges r (p .points) link count v)
+  unfolding case-steps
   rounds-first =
       record {
         strict-carried = s;
-        open-carried = cases-carried p r h link count (l .links) v copied-carried;
+        open-carried = cases-taken .holds;
         strict-given = given;
         open-given = λ x y w e.
             let q : Ends p x y = given-ends p g e in
             ≤ᶜ-trans (tableOf r (p .points) (caseEdges r (p .points) link count v) x y) (tableOf r (p .points) strict x y) (num w)
             (cases-under x y (q .from) (q .to)) (given x y w e);
-        open-cases = λ f i hi. cases-reach p r h link count (l .links) v copied-carried f i hi;
+        open-cases = λ f i hi.
+            reaches taking (case-steps p r h link count (l .links)) (i, hi, rule-reaches taking (case-rule p r link count (l .links) i hi))
+            .reached v v (taken-none taking v copied-carried) f;
         open-lower = λ f i j hi hj. cases-stored (link i .act) (link j .con) (l .links .points .act-below i hi) (l .links .points .con-below j hj);
         open-upper = λ f x i hx hi. cases-stored x (link i .act) hx (l .links .points .act-below i hi);
       }

@@ -22,9 +22,8 @@ use Rattle.lowering.specs.Table.{Sound}
 use Rattle.lowering.specs.Fair.{Fair}
 use Rattle.lowering.specs.Sweep.{iter, lowerCell, joinCell}
 use Rattle.lowering.specs.Spread.{rowBy, spreadRow, spreadAll, takeEdge, newEdge}
-use Rattle.lowering.proofs.Theory.StoredNumbers.{Clamping, above, below, inside, clamping}
-use Rattle.lowering.proofs.Theory.LoweredTables.{Lowered, after-lowering, cell-lowered}
-use Rattle.lowering.proofs.Theory.StillSweep.{exact}
+use Rattle.lowering.proofs.Theory.StoredNumbers.{Clamping, above, below, inside, clamping, exact}
+use Rattle.lowering.proofs.Theory.LoweredTables.{after-lowering, cell-lowered}
 
 -- a joined table: its diagonal is 0, and no cell exceeds the sum of two along a middle point
 pub record Shut (r : Ranges) (n : ℕ) (t : List ℤ) : Type 0 where
@@ -314,23 +313,6 @@ module _ (r : Ranges) (h : Coherent r) (n : ℕ) where
         joins x y z hx hy hz mark d ec ed = ≤ᶜ-mark (tableOf r n u x z)
         joins x y z hx hy hz (num c) mark ec ed = ≤ᶜ-mark (tableOf r n u x z)
         joins x y z hx hy hz (num c) (num d) ec ed = joined-numbers x y z c d hx hy hz ec ed
-
-  -- ---- fairness only falls
-
-  -- a fair table was fair before it was lowered
-  pub fair-before : {t u : List ℤ} → Sound r n t → Lowered r n t u → Fair r n u → Fair r n t
-  fair-before {t} {u} s l f =
-      record {
-        within = λ x y hx hy.
-            within (tableOf r n t x y) (tableOf r n u x y) (s .stored x y hx hy) (l .down x y hx hy) (f .within x y hx hy);
-        diagonal = λ x hx.
-            ≤ᶜ-trans (num (pos zero)) (tableOf r n u x x) (tableOf r n t x x) (f .diagonal x hx) (l .down x x hx hx);
-      }
-    where
-      within : (c d : Cell) → Stored (r .reach) c → d ≤ᶜ c → Within (r .reach) d → Within (r .reach) c
-      within mark d k q m = tt
-      within (num c) mark k q m = absurd q
-      within (num c) (num d) k q m = (omega (ints, q, m .0), k .1)
 
   -- ---- an edge
 

@@ -6,15 +6,17 @@ use lib.Dec.{eqb}
 use lib.IntN.{ℤ, pos}
 use Rattle.rules.specs.Plan.{Link, Ranges}
 use Rattle.rules.proofs.Coherence.{Coherent}
-use Rattle.rules.specs.Edges as edges
 use Rattle.rules.specs.Cells.{Cell, num, _+ᶜ_, lowered, uppered, tableOf}
 use Rattle.cell.specs.Steps.{belowᶜ, clamped}
 use Rattle.lowering.specs.Table.{Sound}
 use Rattle.lowering.specs.Sweep.{joinCell}
-use Rattle.lowering.specs.Spread.{rowBy, spreadRow, spreadAll, takeEdge, newEdge, lowerEdge, lowerEdges, lowerRound, upperEdge, upperEdges, upperRound, strictRound, caseEdge, caseEdges, followLower, followLowers, followUpper, followUppers, followLink, openRound}
-use Rattle.lowering.proofs.Theory.LoweredTables.{Lowered, Lowers, lowered-refl, lowered-trans, cell-lowered, iter-lowered, iter-keeps}
+use Rattle.lowering.specs.Spread.{rowBy, spreadRow, spreadAll, takeEdge, newEdge, lowerEdge, lowerEdges, lowerRound, upperEdge, upperEdges, upperRound, strictRound, caseEdge, followLower, followLowers, followUpper, followUppers, followLink, openRound}
+use Rattle.lowering.proofs.Theory.LoweredTables.{Lowered, Lowers, lowered-refl, lowered-trans, cell-lowered, iter-lowered}
 use Rattle.lowering.proofs.Theory.SweepSteps.{LinkPoints, cell-lowers}
-use Rattle.lowering.proofs.Theory.WalksKept.{Has, has-sum, has-stored, Walked, cell-walked}
+use Rattle.lowering.proofs.Theory.WalksKept.{Has, has-sum, has-stored, Walked}
+use Rattle.lowering.proofs.Theory.StepsTaken.{Taken, Keeps, one, each, keeps, taken-none, rule-keeps}
+use Rattle.lowering.proofs.Theory.LinkRules.{read-rule}
+use Rattle.lowering.proofs.Theory.SweepsTaken.{cells, row-by-keeps}
 
 -- what both sides of a test keep
 pub by-test : (P : List ℤ → Type 0) (b : Bool) {t u : List ℤ} → P t → P u → P (cond b t u)
@@ -60,10 +62,6 @@ module _ (r : Ranges) (h : Coherent r) (n : ℕ) where
   unfolding upperEdge
   upper-edge-lowers k x hx t s = edge-lowered x (k .act) (uppered k (tableOf r n t x (k .con))) hx t s
 
-  pub upper-edges-lowered : (k : Link) (t : List ℤ) → Sound r n t → Lowered r n t (upperEdges r n k t)
-  unfolding upperEdges
-  upper-edges-lowered k t s = iter-lowered r n n (upperEdge r n k) (upper-edge-lowers k) t s
-
   pub follow-upper-lowers : (strict : List ℤ) (k : Link) → Lowers r n n (followUpper r n strict k)
   unfolding followUpper
   follow-upper-lowers strict k x hx t s = edge-lowered x (k .act) (tableOf r n strict x (k .act)) hx t s
@@ -85,7 +83,8 @@ module _ (r : Ranges) (h : Coherent r) (n : ℕ) where
     lower-round-lowered t s = iter-lowered r n count (λ i. lowerEdges r n link count (link i)) lower-edges-lowers t s
 
     pub upper-edges-lowers : Lowers r n count (λ i. upperEdges r n (link i))
-    upper-edges-lowers i hi t s = upper-edges-lowered (link i) t s
+    unfolding upperEdges
+    upper-edges-lowers i hi t s = iter-lowered r n n (upperEdge r n (link i)) (upper-edge-lowers (link i)) t s
 
     pub upper-round-lowered : (t : List ℤ) → Sound r n t → Lowered r n t (upperRound r n link count t)
     unfolding upperRound
@@ -102,10 +101,6 @@ module _ (r : Ranges) (h : Coherent r) (n : ℕ) where
     unfolding caseEdge
     case-edge-lowers i hi t s =
         edge-lowered (link i .act) (link i .con) (num (pos (link i .short))) (p .act-below i hi) t s
-
-    pub case-edges-lowered : (t : List ℤ) → Sound r n t → Lowered r n t (caseEdges r n link count t)
-    unfolding caseEdges
-    case-edges-lowered t s = iter-lowered r n count (λ i. caseEdge r n (link i)) case-edge-lowers t s
 
     pub follow-lower-lowers : (strict : List ℤ) (i : ℕ) → i < count → Lowers r n count (λ j. followLower r n strict (link i) (link j))
     unfolding followLower
@@ -131,34 +126,20 @@ module _ (r : Ranges) (h : Coherent r) (n : ℕ) where
 
 -- ---- walks
 
-module _ (E : ℕ → ℕ → ℤ → Type 0) (r : Ranges) (h : Coherent r) (n : ℕ) where
-  -- a row by what leads to a point
-  row-by-walked : (y x : ℕ) (a : Cell) → y < n → x < n → Has E x y a → (t : List ℤ) → Walked E r n t → Walked E r n (rowBy r n y x a t)
-  unfolding rowBy joinCell
-  row-by-walked y x a hy hx k t w =
-      iter-keeps (Walked E r n) n (joinCell r n y x a)
-      (λ z hz u m.
-      cell-walked E r h n x z (a +ᶜ tableOf r n u y z) u hx hz (has-sum E x y z a (tableOf r n u y z) k (m .has y z hy hz)) m)
-      t w
-
-  -- an edge that has its walk, spread
-  spread-walked : (a b : ℕ) (w : Cell) → a < n → b < n → Has E a b w → (t : List ℤ) → Walked E r n t → Walked E r n (spreadAll r n a b w t)
-  unfolding spreadAll spreadRow
-  spread-walked a b w ha hb k t m =
-      iter-keeps (Walked E r n) n (spreadRow r n a b w)
-      (λ x hx u v.
-      by-test (Walked E r n) (belowᶜ (tableOf r n u x a +ᶜ w) (tableOf r n u x b))
-      (row-by-walked b x (tableOf r n u x a +ᶜ w) hb hx (has-sum E x a b (tableOf r n u x a) w (v .has x a hx ha) k) u v) v)
-      t m
-
-  -- and taken where it lowers
-  pub edge-walked : (a b : ℕ) (c : Cell) → a < n → b < n → Has E a b c → (t : List ℤ) → Walked E r n t → Walked E r n (newEdge r n a b c t)
-  unfolding newEdge takeEdge
-  edge-walked a b c ha hb k t m =
-      let w : Cell = clamped (r .reach) c in
-      let kw : Has E a b w = has-stored E a b (r .reach) c k in
-      by-test (Walked E r n) (belowᶜ w (tableOf r n t a b))
-      (by-test (Walked E r n) (belowᶜ (w +ᶜ tableOf r n t b a) (num (pos zero)))
-      (cell-walked E r h n a a (w +ᶜ tableOf r n t b a) t ha ha (has-sum E a b a w (tableOf r n t b a) kw (m .has b a hb ha)) m)
-      (spread-walked a b w ha hb kw t m))
-      m
+-- an edge that has its walk keeps that every cell has one
+pub edge-keeps : (E : ℕ → ℕ → ℤ → Type 0) (r : Ranges) (h : Coherent r) (n a b : ℕ) (c : Cell) → a < n → b < n → Has E a b c
+    → Keeps (Walked E r n) r n (newEdge r n a b c)
+unfolding newEdge takeEdge spreadAll spreadRow
+edge-keeps E r h n a b c ha hb k t m =
+    let at : List ℤ → ℕ → ℕ → Cell = tableOf r n in
+    let w : Cell = clamped (r .reach) c in
+    let kw : Has E a b w = has-stored E a b (r .reach) c k in
+    by-test (Taken (Walked E r n) r n t) (belowᶜ w (at t a b))
+    (by-test (Taken (Walked E r n) r n t) (belowᶜ (w +ᶜ at t b a) (num (pos zero)))
+    (rule-keeps (cells E r h n) (read-rule E r n a b a w ha hb ha kw) t m)
+    (keeps (cells E r h n)
+    (each n (λ x hx.
+    one (λ u v.
+    by-test (Taken (Walked E r n) r n u) (belowᶜ (at u x a +ᶜ w) (at u x b))
+    (row-by-keeps E r h n b x (at u x a +ᶜ w) hb hx (has-sum E x a b (at u x a) w (v .has x a hx ha) kw) u v) (taken-none (cells E r h n) u v)))) t m))
+    (taken-none (cells E r h n) t m)
