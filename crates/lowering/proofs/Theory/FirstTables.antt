@@ -28,7 +28,7 @@ use Rattle.lowering.specs.Sweep.{lowerCell, markAll, diagonalAll, limitC
 use Rattle.cell.proofs.StoredCells.{≤ᶜ-trans}
 use Rattle.lowering.proofs.Theory.StoredNumbers.{Clamping, above, below, inside as in-reach, clamping}
 use Rattle.lowering.proofs.Theory.WalksKept.{Has, Walked}
-use Rattle.lowering.proofs.Theory.StepsTaken.{Steps, one, both, each, Among, Rule, Puts, Taken, taken-none, keeps, reaches, rule-keeps, rule-reaches}
+use Rattle.lowering.proofs.Theory.StepsTaken.{Steps, one, both, each, Among, Rule, Puts, Taken, keeps, reached, rule-keeps, rule-reaches}
 use Rattle.lowering.proofs.Theory.LinkRules.{constant-rule}
 use Rattle.lowering.proofs.Theory.SweepsTaken.{Any, cells}
 use Rattle.lowering.proofs.Theory.StillSweep.{AllLinks, each-link}
@@ -113,7 +113,7 @@ module _ (E : ℕ → ℕ → ℤ → Type 0) (r : Ranges) (h : Coherent r) (n :
       → tableOf r n (f t) x y ≤ᶜ num c
   number-below {x} {y} {c} {f} l a q lo hi t w =
       ≤ᶜ-trans (tableOf r n (f t) x y) (clamped (r .reach) (num c)) (num c)
-      (reaches (cells E r h n) a q .reached t t (taken-none (cells E r h n) t w) tt) (stored-itself (r .reach) lo hi)
+      (reached (cells E r h n) l a q t w tt) (stored-itself (r .reach) lo hi)
 
   pub diagonal-below : (t : List ℤ) → Walked E r n t → (x : ℕ) → x < n → tableOf r n (diagonalAll r n t) x x ≤ᶜ num (pos zero)
   diagonal-below t w x hx =

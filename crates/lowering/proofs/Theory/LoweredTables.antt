@@ -1,6 +1,7 @@
 -- Lowering one cell, and steps made of it: lengths and cells past the room stay, no cell rises, the stored range stays. Steps that leave a list as it was
 -- left it so one by one. Over any coherent ranges, so at any width. Assumes nothing.
 use mathlib.Core.Path.{_≡_, refl, ap, _∙_}
+use mathlib.Core.Bool.{Bool, true, false, cond}
 use mathlib.Core.Logic.{_⊎_, inl, inr, ⊎-elim}
 use mathlib.Core.List.{List}
 use Prim.Native.Nat.{ℕ, zero, suc, _+_, _*_, _≤_, _<_}
@@ -12,13 +13,12 @@ use Rattle.whole.proofs.Order.{ints}
 use Rattle.whole.proofs.Place.{inside, after-write}
 use Rattle.rules.specs.Plan.{Ranges}
 use Rattle.rules.proofs.Coherence.{Coherent}
-use Rattle.rules.proofs.Lists.{same-list}
 use Rattle.rules.specs.Cells.{Cell, mark, num, _≤ᶜ_, Within, cellOf, tableOf}
 use Rattle.cell.specs.Steps.{smallerᶜ, Stored, clamped, numberOf}
 use Rattle.lowering.specs.Table.{Sound}
 use Rattle.lowering.specs.Fair.{Fair}
 use Rattle.lowering.specs.Sweep.{iter, lowerCell}
-use Rattle.cell.proofs.StoredCells.{≤ᶜ-refl, ≤ᶜ-trans, ≤ᶜ-antisym, smaller-right, clamped-stored}
+use Rattle.cell.proofs.StoredCells.{≤ᶜ-refl, ≤ᶜ-trans, smaller-right, clamped-stored}
 use Rattle.lowering.proofs.Theory.StoredNumbers.{cell-of-number, smaller-keeps}
 
 -- u is t with cells lowered
@@ -41,11 +41,14 @@ lowered-trans r n t u v a b =
       sound = b .sound;
     }
 
--- a list lowered, and lowered back to what it was, was not changed
-pub lowered-antisym : (r : Ranges) (n : ℕ) (t u : List ℤ) → Lowered r n t u → Lowered r n u t → u ≡ t
-lowered-antisym r n t u a b =
-    same-list r n u t (a .same-length) (a .beyond)
-    (λ x y hx hy. ≤ᶜ-antisym (tableOf r n u x y) (tableOf r n t x y) (a .down x y hx hy) (b .down x y hx hy))
+-- a list lowered, and that lowered
+pub lowered-then : {r : Ranges} {n : ℕ} {t u v : List ℤ} → Lowered r n t u → (Sound r n u → Lowered r n u v) → Lowered r n t v
+lowered-then {r} {n} {t} {u} {v} a f = lowered-trans r n t u v a (f (a .sound))
+
+-- what both sides of a test keep
+pub by-test : (P : List ℤ → Type 0) (b : Bool) {t u : List ℤ} → P t → P u → P (cond b t u)
+by-test P true p q = p
+by-test P false p q = q
 
 -- a fair table was fair before it was lowered
 pub fair-before : {r : Ranges} {n : ℕ} {t u : List ℤ} → Sound r n t → Lowered r n t u → Fair r n u → Fair r n t

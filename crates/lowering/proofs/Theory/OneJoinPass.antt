@@ -29,8 +29,8 @@ use Rattle.lowering.specs.Sweep.{iter, lowerCell, joinMiddle, joinAll}
 use Rattle.lowering.specs.Fair.{Fair}
 use Rattle.lowering.proofs.Theory.LoweredTables.{Lowered, lowered-refl, lowered-trans, fair-before}
 use Rattle.lowering.proofs.Theory.WalksKept.{Has, Walked}
-use Rattle.lowering.proofs.Theory.StepsTaken.{Taken, Keeps, Puts, one, each, keeps, taken-none}
-use Rattle.lowering.proofs.Theory.SweepsTaken.{Any, cells, middle-keeps, middle-reaches, joins-keep}
+use Rattle.lowering.proofs.Theory.StepsTaken.{Taken, Keeps, Puts, one, each, keeps}
+use Rattle.lowering.proofs.Theory.SweepsTaken.{Any, cells, middle-keeps, middle-reached, joins-keep}
 use Rattle.lowering.proofs.Theory.StoredNumbers.{stored-at-most, exact}
 
 -- ---- paths
@@ -274,8 +274,7 @@ module _ (p : Plan) (r : Ranges) (h : Coherent r) (g : Pointed p) (b : Weighted 
   next-joined : (x k z : ℕ) → x < p .points → k < p .points → z < p .points → cell (suc k) x z ≤ᶜ clamped (r .reach) (cell k x k +ᶜ cell k k z)
   unfolding after
   next-joined x k z hx hk hz =
-      middle-reaches (Given p) r h (p .points) x k z hx hk hz .reached (after k) (after k)
-      (taken-none pass (after k) (after-taken k (omega arith) .holds)) tt
+      middle-reached (Given p) r h (p .points) x k z hx hk hz (after k) (after-taken k (omega arith) .holds)
 
   -- ---- from above: a brief path over the middles so far has a cell in reach
 

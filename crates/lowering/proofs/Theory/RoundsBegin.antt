@@ -22,7 +22,7 @@ use Rattle.lowering.specs.Fair.{Fair}
 use Rattle.lowering.specs.Sweep.{joinAll, firstStrict, firstOpen}
 use Rattle.lowering.specs.Spread.{Copied, newEdge, caseEdges}
 use Rattle.lowering.proofs.Theory.WalksKept.{Has, has-open, Walked}
-use Rattle.lowering.proofs.Theory.StepsTaken.{Taken, Puts, taken-none, keeps, reaches, rule-reaches}
+use Rattle.lowering.proofs.Theory.StepsTaken.{Taken, Puts, keeps, reached, rule-reaches}
 use Rattle.lowering.proofs.Theory.LinkRules.{case-rule}
 use Rattle.lowering.proofs.Theory.SweepsTaken.{joins-keep}
 use Rattle.lowering.proofs.Theory.StillSweep.{AllLinks}
@@ -177,8 +177,8 @@ module _ (p : Plan) (r : Ranges) (h : Coherent r) (g : Pointed p) (link : ℕ �
             ≤ᶜ-trans (tableOf r (p .points) (caseEdges r (p .points) link count v) x y) (tableOf r (p .points) strict x y) (num w)
             (cases-under x y (q .from) (q .to)) (given x y w e);
         open-cases = λ f i hi.
-            reaches taking (case-steps p r h link count (l .links)) (i, hi, rule-reaches taking (case-rule p r link count (l .links) i hi))
-            .reached v v (taken-none taking v copied-carried) f;
+            let o = case-rule p r link count (l .links) i hi in
+            reached taking o (case-steps p r h link count (l .links)) (i, hi, rule-reaches taking o) v copied-carried f;
         open-lower = λ f i j hi hj. cases-stored (link i .act) (link j .con) (l .links .points .act-below i hi) (l .links .points .con-below j hj);
         open-upper = λ f x i hx hi. cases-stored x (link i .act) hx (l .links .points .act-below i hi);
       }

@@ -26,7 +26,7 @@ use Rattle.lowering.proofs.Theory.LoweredTables.{fair-before}
 use Rattle.lowering.proofs.Theory.WalksKept.{Has, Walked, PlanLinks}
 use Rattle.lowering.proofs.Theory.StoredNumbers.{exact}
 use Rattle.lowering.proofs.Theory.StillSweep.{AllLinks, each-link, two-links}
-use Rattle.lowering.proofs.Theory.StepsTaken.{Taken, Steps, one, both, each, Among, Rule, Puts, taken-none, keeps, reaches, rule-keeps, rule-reaches, still-obeys}
+use Rattle.lowering.proofs.Theory.StepsTaken.{Taken, Steps, one, both, each, Among, Rule, Puts, keeps, reached, rule-keeps, rule-reaches, still-obeys}
 use Rattle.lowering.proofs.Theory.LinkRules.{lower-rule, lower-steps, lower-among, upper-rule, case-rule, strict-rule}
 use Rattle.lowering.proofs.Theory.SpreadSteps.{edge-keeps}
 use Rattle.lowering.proofs.Theory.SpreadKeepsJoined.{Shut, edge-shut, edge-under}
@@ -176,7 +176,6 @@ module _ (p : Plan) (r : Ranges) (h : Coherent r) (g : Pointed p) (link : ℕ �
       let w : Walked (Derivable p) r (p .points) u = tu .holds .walks in
       let steps : Steps (Carried (Open p) p r) r (p .points) (openRound r (p .points) u link count) = open-steps p r h link count (l .links) u w in
       let tv : Taken (Carried (Open p) p r) r (p .points) weak v = keeps taking-open steps weak (s .open-carried) in
-      let here : Taken (Carried (Open p) p r) r (p .points) weak weak = taken-none taking-open weak (s .open-carried) in
       record {
         strict-carried = tu .holds;
         open-carried = tv .holds;
@@ -193,11 +192,11 @@ module _ (p : Plan) (r : Ranges) (h : Coherent r) (g : Pointed p) (link : ℕ �
             (tv .low .down x y (l .links .points .act-below i hi) (l .links .points .con-below i hi))
             (s .open-cases (fair-before (s .open-carried .walks .sound) (tv .low) f) i hi);
         open-lower = λ f i j hi hj.
-            reaches taking-open steps (i, hi, inl (j, hj, rule-reaches taking-open (lower-cell p r h link count (l .links) u w i j hi hj)))
-            .reached weak weak here f;
+            let o = lower-cell p r h link count (l .links) u w i j hi hj in
+            reached taking-open o steps (i, hi, inl (j, hj, rule-reaches taking-open o)) weak (s .open-carried) f;
         open-upper = λ f x i hx hi.
-            reaches taking-open steps (i, hi, inr (x, hx, rule-reaches taking-open (upper-cell p r h link count (l .links) u w x i hx hi)))
-            .reached weak weak here f;
+            let o = upper-cell p r h link count (l .links) u w x i hx hi in
+            reached taking-open o steps (i, hi, inr (x, hx, rule-reaches taking-open o)) weak (s .open-carried) f;
       }
 
   module _ (same : strictRound r (p .points) link count strict ≡ strict) (fs : Fair r (p .points) strict) (fw : Fair r (p .points) weak) where

@@ -1,5 +1,4 @@
 -- Each step of spreading lowers, and keeps the walk of every cell. Over any coherent ranges. Assumes nothing.
-use mathlib.Core.Bool.{Bool, true, false, cond}
 use mathlib.Core.List.{List}
 use Prim.Native.Nat.{ℕ, zero, _<_}
 use lib.Dec.{eqb}
@@ -11,17 +10,12 @@ use Rattle.cell.specs.Steps.{belowᶜ, clamped}
 use Rattle.lowering.specs.Table.{Sound}
 use Rattle.lowering.specs.Sweep.{joinCell}
 use Rattle.lowering.specs.Spread.{rowBy, spreadRow, spreadAll, takeEdge, newEdge, lowerEdge, lowerEdges, lowerRound, upperEdge, upperEdges, upperRound, strictRound, caseEdge, followLower, followLowers, followUpper, followUppers, followLink, openRound}
-use Rattle.lowering.proofs.Theory.LoweredTables.{Lowered, Lowers, lowered-refl, lowered-trans, cell-lowered, iter-lowered}
+use Rattle.lowering.proofs.Theory.LoweredTables.{Lowered, Lowers, lowered-refl, lowered-then, by-test, cell-lowered, iter-lowered}
 use Rattle.lowering.proofs.Theory.SweepSteps.{LinkPoints, cell-lowers}
 use Rattle.lowering.proofs.Theory.WalksKept.{Has, has-sum, has-stored, Walked}
 use Rattle.lowering.proofs.Theory.StepsTaken.{Taken, Keeps, one, each, keeps, taken-none, rule-keeps}
 use Rattle.lowering.proofs.Theory.LinkRules.{read-rule}
 use Rattle.lowering.proofs.Theory.SweepsTaken.{cells, row-by-keeps}
-
--- what both sides of a test keep
-pub by-test : (P : List ℤ → Type 0) (b : Bool) {t u : List ℤ} → P t → P u → P (cond b t u)
-by-test P true p q = p
-by-test P false p q = q
 
 -- ---- lowering
 
@@ -52,12 +46,6 @@ module _ (r : Ranges) (h : Coherent r) (n : ℕ) where
       by-test (Lowered r n t) (belowᶜ (clamped (r .reach) c) (tableOf r n t a b)) (take-lowered a b (clamped (r .reach) c) ha t s)
       (lowered-refl r n t s)
 
-  pub lower-edge-lowered : (k j : Link) → k .act < n → (t : List ℤ) → Sound r n t → Lowered r n t (lowerEdge r n k j t)
-  unfolding lowerEdge
-  lower-edge-lowered k j hk t s =
-      by-test (Lowered r n t) (eqb (j .con) (k .con)) (lowered-refl r n t s)
-      (edge-lowered (k .act) (j .con) (lowered k j (tableOf r n t (k .con) (j .con))) hk t s)
-
   pub upper-edge-lowers : (k : Link) → Lowers r n n (upperEdge r n k)
   unfolding upperEdge
   upper-edge-lowers k x hx t s = edge-lowered x (k .act) (uppered k (tableOf r n t x (k .con))) hx t s
@@ -72,7 +60,10 @@ module _ (r : Ranges) (h : Coherent r) (n : ℕ) where
 
   module _ (link : ℕ → Link) (count : ℕ) (p : LinkPoints n link count) where
     pub lower-edge-lowers : (i : ℕ) → i < count → Lowers r n count (λ j. lowerEdge r n (link i) (link j))
-    lower-edge-lowers i hi j hj t s = lower-edge-lowered (link i) (link j) (p .act-below i hi) t s
+    unfolding lowerEdge
+    lower-edge-lowers i hi j hj t s =
+        by-test (Lowered r n t) (eqb (link j .con) (link i .con)) (lowered-refl r n t s)
+        (edge-lowered (link i .act) (link j .con) (lowered (link i) (link j) (tableOf r n t (link i .con) (link j .con))) (p .act-below i hi) t s)
 
     pub lower-edges-lowers : Lowers r n count (λ i. lowerEdges r n link count (link i))
     unfolding lowerEdges
@@ -92,10 +83,7 @@ module _ (r : Ranges) (h : Coherent r) (n : ℕ) where
 
     pub strict-round-lowered : (t : List ℤ) → Sound r n t → Lowered r n t (strictRound r n link count t)
     unfolding strictRound
-    strict-round-lowered t s =
-        let a : Lowered r n t (lowerRound r n link count t) = lower-round-lowered t s in
-        lowered-trans r n t (lowerRound r n link count t) (upperRound r n link count (lowerRound r n link count t)) a
-        (upper-round-lowered (lowerRound r n link count t) (a .sound))
+    strict-round-lowered t s = lowered-then (lower-round-lowered t s) (upper-round-lowered (lowerRound r n link count t))
 
     pub case-edge-lowers : Lowers r n count (λ i. caseEdge r n (link i))
     unfolding caseEdge
@@ -115,10 +103,7 @@ module _ (r : Ranges) (h : Coherent r) (n : ℕ) where
     pub follow-link-lowers : (strict : List ℤ) → Lowers r n count (λ i. followLink r n strict link count (link i))
     unfolding followLink
     follow-link-lowers strict i hi t s =
-        let a : Lowered r n t (followLowers r n strict link count (link i) t) = follow-lowers-lowers strict i hi t s in
-        lowered-trans r n t (followLowers r n strict link count (link i) t)
-        (followUppers r n strict (link i) (followLowers r n strict link count (link i) t)) a
-        (follow-uppers-lowered strict (link i) (followLowers r n strict link count (link i) t) (a .sound))
+        lowered-then (follow-lowers-lowers strict i hi t s) (follow-uppers-lowered strict (link i) (followLowers r n strict link count (link i) t))
 
     pub open-round-lowered : (strict t : List ℤ) → Sound r n t → Lowered r n t (openRound r n strict link count t)
     unfolding openRound

@@ -30,10 +30,8 @@ abbrev pub Keeps : (List ℤ → Type 0) → Ranges → ℕ → (List ℤ → Li
 Keeps P r n f = (t : List ℤ) → P t → Taken P r n t (f t)
 
 -- a step that brings the cell x to y down to what a rule yields of any earlier table, where Q holds of the table after
-pub record Reaches (P Q : List ℤ → Type 0) (r : Ranges) (n : ℕ) (f : List ℤ → List ℤ) (x y : ℕ) (rule : List ℤ → Cell) : Type 0 where
-  pub from-below : x < n
-  pub to-below : y < n
-  pub reached : (s t : List ℤ) → Taken P r n s t → Q (f t) → tableOf r n (f t) x y ≤ᶜ clamped (r .reach) (rule s)
+abbrev pub Reaches : (List ℤ → Type 0) → (List ℤ → Type 0) → Ranges → ℕ → ℕ → ℕ → (List ℤ → Cell) → (List ℤ → List ℤ) → Type 0
+Reaches P Q r n x y rule f = (s t : List ℤ) → Taken P r n s t → Q (f t) → tableOf r n (f t) x y ≤ᶜ clamped (r .reach) (rule s)
 
 -- steps put together: one, one after others, one for each number below m, and one where a test fails
 pub data Steps (P : List ℤ → Type 0) (r : Ranges) (n : ℕ) : (List ℤ → List ℤ) → Type 0 where
@@ -45,7 +43,7 @@ pub data Steps (P : List ℤ → Type 0) (r : Ranges) (n : ℕ) : (List ℤ → 
 -- where among steps the one is that brings the cell x to y down to what a rule yields: of two, the first or the second; of many, which
 module _ (P Q : List ℤ → Type 0) (r : Ranges) (n x y : ℕ) (rule : List ℤ → Cell) where
   abbrev pub Among : {f : List ℤ → List ℤ} → Steps P r n f → Type 0
-  Among (one {f} k) = Reaches P Q r n f x y rule
+  Among (one {f} k) = Reaches P Q r n x y rule f
   Among (both a b) = Among a ⊎ Among b
   Among (each m a) = (i : ℕ) × (h : i < m) × Among (a i h)
   Among (unless b a) = (e : b ≡ false) × Among (a e)
@@ -90,79 +88,64 @@ module _ {E : ℕ → ℕ → ℤ → Type 0} {r : Ranges} {n : ℕ} {P Q : List
   keeps (each m a) = iter-keeps m (λ i h. keeps (a i h))
   keeps (unless b a) = unless-keeps b (λ e. keeps (a e))
 
-  -- ---- what one of them reaches
-
-  module _ {x y : ℕ} {rule : List ℤ → Cell} where
-    module _ {f g : List ℤ → List ℤ} (kf : Keeps P r n f) where
-      reaches-second : Reaches P Q r n g x y rule → Reaches P Q r n (λ t. g (f t)) x y rule
-      reaches-second m =
-          record {
-            from-below = m .from-below;
-            to-below = m .to-below;
-            reached = λ s t k q. m .reached s (f t) (taken-more k (kf t (k .holds))) q;
-          }
-
-      reaches-first : Keeps P r n g → Reaches P Q r n f x y rule → Reaches P Q r n (λ t. g (f t)) x y rule
-      reaches-first kg m =
-          record {
-            from-below = m .from-below;
-            to-below = m .to-below;
-            reached = λ s t k q.
-                let a : P (f t) = kf t (k .holds) .holds in
-                let b : Lowered r n (f t) (g (f t)) = kg (f t) a .low in
-                ≤ᶜ-trans (tableOf r n (g (f t)) x y) (tableOf r n (f t) x y) (clamped (r .reach) (rule s)) (b .down x y (m .from-below) (m .to-below))
-                (m .reached s t k (w .before (f t) (g (f t)) a b q));
-          }
-
-    iter-reaches : {f : ℕ → List ℤ → List ℤ} (m : ℕ) → ((i : ℕ) → i < m → Keeps P r n (f i)) → (i : ℕ) → i < m
-        → Reaches P Q r n (f i) x y rule → Reaches P Q r n (iter f m) x y rule
-    iter-reaches zero k i hi q = absurd (not-suc-le-zero hi)
-    iter-reaches {f} (suc m) k i hi q =
-        let earlier : Keeps P r n (iter f m) = iter-keeps m (λ j h. k j (omega arith)) in
-        ⊎-elim (λ e. reaches-second earlier (subst (λ (j : ℕ). Reaches P Q r n (f j) x y rule) e q))
-        (λ l. reaches-first earlier (k m (omega arith)) (iter-reaches m (λ j h. k j (omega arith)) i l q))
-        (eq-or-lt-of-le (le-of-suc-le-suc hi))
-
-    unless-reaches : {f : List ℤ → List ℤ} (b : Bool) → b ≡ false → Reaches P Q r n f x y rule → Reaches P Q r n (λ t. cond b t (f t)) x y rule
-    unless-reaches true e q = absurd (true≢false e)
-    unless-reaches false e q = q
-
-    pub reaches : {f : List ℤ → List ℤ} (a : Steps P r n f) → Among P Q r n x y rule a → Reaches P Q r n f x y rule
-    reaches (one k) q = q
-    reaches (both a b) (inl q) = reaches-first (keeps a) (keeps b) (reaches a q)
-    reaches (both a b) (inr q) = reaches-second (keeps a) (reaches b q)
-    reaches (each m a) q = iter-reaches m (λ i h. keeps (a i h)) (q .0) (q .1) (reaches (a (q .0) (q .1)) (q .2))
-    reaches (unless b a) q = unless-reaches b (q .0) (reaches (a (q .0)) (q .1))
-
+  module _ {x y : ℕ} {rule : List ℤ → Cell} (l : Rule E r n x y rule) where
     -- ---- one rule
 
-    pub rule-keeps : Rule E r n x y rule → Keeps P r n (λ t. put x y (rule t) t)
-    rule-keeps l t p = w .puts x y (rule t) (l .from-below) (l .to-below) (l .has t (w .walks t p)) t p
+    pub rule-keeps : Keeps P r n (λ t. put x y (rule t) t)
+    rule-keeps t p = w .puts x y (rule t) (l .from-below) (l .to-below) (l .has t (w .walks t p)) t p
 
-    pub rule-reaches : Rule E r n x y rule → Reaches P Q r n (λ t. put x y (rule t) t) x y rule
-    rule-reaches l =
-        record {
-          from-below = l .from-below;
-          to-below = l .to-below;
-          reached = λ s t k q.
-              ≤ᶜ-trans (tableOf r n (put x y (rule t) t) x y) (clamped (r .reach) (rule t)) (clamped (r .reach) (rule s))
-              (w .down x y (rule t) (l .from-below) (l .to-below) (l .has t (w .walks t (k .holds))) t (k .holds) q)
-              (clamped-mono (r .reach) (rule t) (rule s) (l .falls s t (k .low)));
-        }
+    pub rule-reaches : Reaches P Q r n x y rule (λ t. put x y (rule t) t)
+    rule-reaches s t k q =
+        ≤ᶜ-trans (tableOf r n (put x y (rule t) t) x y) (clamped (r .reach) (rule t)) (clamped (r .reach) (rule s))
+        (w .down x y (rule t) (l .from-below) (l .to-below) (l .has t (w .walks t (k .holds))) t (k .holds) q)
+        (clamped-mono (r .reach) (rule t) (rule s) (l .falls s t (k .low)))
 
-    -- ---- steps that leave a table as it is
+    -- ---- what one of many steps reaches
 
-    module _ (l : Rule E r n x y rule) {f : List ℤ → List ℤ} (a : Steps P r n f) (q : Among P Q r n x y rule a) (t : List ℤ) (p : P t) (same : f t ≡ t)
-        (good : Q t) where
-      -- its cell is at most what is stored of what the rule yields
-      pub still-down : tableOf r n t x y ≤ᶜ clamped (r .reach) (rule t)
-      still-down =
-          subst (λ (u : List ℤ). tableOf r n u x y ≤ᶜ clamped (r .reach) (rule t)) same
-          (reaches a q .reached t t (taken-none t p) (subst Q (sym same) good))
+    abbrev Down : (List ℤ → List ℤ) → Type 0
+    Down f = Reaches P Q r n x y rule f
+
+    second-reaches : (f g : List ℤ → List ℤ) → Keeps P r n f → Down g → Down (λ t. g (f t))
+    second-reaches f g kf m s t k q = m s (f t) (taken-more k (kf t (k .holds))) q
+
+    first-reaches : (f g : List ℤ → List ℤ) → Keeps P r n f → Keeps P r n g → Down f → Down (λ t. g (f t))
+    first-reaches f g kf kg m s t k q =
+        let a : P (f t) = kf t (k .holds) .holds in
+        let b : Lowered r n (f t) (g (f t)) = kg (f t) a .low in
+        ≤ᶜ-trans (tableOf r n (g (f t)) x y) (tableOf r n (f t) x y) (clamped (r .reach) (rule s)) (b .down x y (l .from-below) (l .to-below))
+        (m s t k (w .before (f t) (g (f t)) a b q))
+
+    iter-reaches : (f : ℕ → List ℤ → List ℤ) (m : ℕ) → ((i : ℕ) → i < m → Keeps P r n (f i)) → (i : ℕ) → i < m → Down (f i) → Down (iter f m)
+    iter-reaches f zero k i hi q = absurd (not-suc-le-zero hi)
+    iter-reaches f (suc m) k i hi q =
+        let earlier : Keeps P r n (iter f m) = iter-keeps m (λ j h. k j (omega arith)) in
+        ⊎-elim (λ e. second-reaches (iter f m) (f m) earlier (subst (λ (j : ℕ). Down (f j)) e q))
+        (λ d. first-reaches (iter f m) (f m) earlier (k m (omega arith)) (iter-reaches f m (λ j h. k j (omega arith)) i d q))
+        (eq-or-lt-of-le (le-of-suc-le-suc hi))
+
+    unless-reaches : (f : List ℤ → List ℤ) (b : Bool) → b ≡ false → Down f → Down (λ t. cond b t (f t))
+    unless-reaches f true e q = absurd (true≢false e)
+    unless-reaches f false e q = q
+
+    pub reaches : {f : List ℤ → List ℤ} (a : Steps P r n f) → Among P Q r n x y rule a → Down f
+    reaches (one k) q = q
+    reaches (both {f} {g} a b) (inl q) = first-reaches f g (keeps a) (keeps b) (reaches a q)
+    reaches (both {f} {g} a b) (inr q) = second-reaches f g (keeps a) (reaches b q)
+    reaches (each {f} m a) q = iter-reaches f m (λ i h. keeps (a i h)) (q .0) (q .1) (reaches (a (q .0) (q .1)) (q .2))
+    reaches (unless {f} b a) q = unless-reaches f b (q .0) (reaches (a (q .0)) (q .1))
+
+    module _ {f : List ℤ → List ℤ} (a : Steps P r n f) (q : Among P Q r n x y rule a) (t : List ℤ) (p : P t) where
+      -- after the steps, where Q holds
+      pub reached : Q (f t) → tableOf r n (f t) x y ≤ᶜ clamped (r .reach) (rule t)
+      reached good = reaches a q t t (taken-none t p) good
+
+      -- steps that leave a table as it is: its cell is at most what is stored of what the rule yields
+      pub still-down : f t ≡ t → Q t → tableOf r n t x y ≤ᶜ clamped (r .reach) (rule t)
+      still-down same good = subst (λ (u : List ℤ). tableOf r n u x y ≤ᶜ clamped (r .reach) (rule t)) same (reached (subst Q (sym same) good))
 
       -- and at most what the rule yields, if it is no lower than the reach, and in reach where there is a walk
-      pub still-obeys : Within (r .reach) (tableOf r n t x y)
+      pub still-obeys : f t ≡ t → Q t → Within (r .reach) (tableOf r n t x y)
           → ((v : ℤ) → Walk E x y v → AtMost (tableOf r n t x y) (pos (r .reach))) → tableOf r n t x y ≤ᶜ rule t
-      still-obeys within full =
+      still-obeys same good within full =
           exact (r .reach) (tableOf r n t x y) (rule t) within
-          (λ c e. let d : Dominated E x y c = subst (Has E x y) e (l .has t (w .walks t p)) in full (d .total) (d .walk)) still-down
+          (λ c e. let d : Dominated E x y c = subst (Has E x y) e (l .has t (w .walks t p)) in full (d .total) (d .walk)) (still-down same good)

@@ -1,5 +1,4 @@
 -- Each part of a sweep lowers a table of stored cells. Over any coherent ranges. Assumes nothing.
-use mathlib.Core.Bool.{Bool, true, false, cond}
 use mathlib.Core.List.{List}
 use Prim.Native.Nat.{ℕ, zero, _<_}
 use native.Mathlib.Omega.{arith}
@@ -10,7 +9,7 @@ use Rattle.rules.proofs.Coherence.{Coherent}
 use Rattle.rules.specs.Cells.{Cell, num, _+ᶜ_, lowered, uppered, tableOf}
 use Rattle.lowering.specs.Sweep.{lowerCell, joinCell, joinRow, joinMiddle, joinAll, lowerPair, lowerLink, lowerAll, upperCell, upperPoint, upperAll, openCell, openRow, openAll, caseLink, caseAll, sweepStrict, sweepOpen, limitCell, linkEdges}
 use Rattle.lowering.specs.Table.{Sound}
-use Rattle.lowering.proofs.Theory.LoweredTables.{Lowered, Lowers, lowered-refl, lowered-trans, cell-lowered, iter-lowered}
+use Rattle.lowering.proofs.Theory.LoweredTables.{Lowered, Lowers, lowered-refl, lowered-then, by-test, cell-lowered, iter-lowered}
 
 -- the links name points of the table
 pub record LinkPoints (n : ℕ) (link : ℕ → Link) (count : ℕ) : Type 0 where
@@ -38,20 +37,13 @@ module _ (r : Ranges) (h : Coherent r) (n : ℕ) where
 
   -- ---- Lower
 
-  pair-lowered : (k j : Link) → k .act < n → j .con < n → (t : List ℤ) → Sound r n t → Lowered r n t (lowerPair r n k j t)
-  unfolding lowerPair
-  pair-lowered k j hk hj t s = by (eqb (j .con) (k .con))
-    where
-      u : List ℤ
-      u = lowerCell r n (k .act) (j .con) (lowered k j (tableOf r n t (k .con) (j .con))) t
-
-      by : (b : Bool) → Lowered r n t (cond b t u)
-      by true = lowered-refl r n t s
-      by false = cell-lowered r h n (k .act) (j .con) (lowered k j (tableOf r n t (k .con) (j .con))) t hk hj s
-
   module _ (link : ℕ → Link) (count : ℕ) (p : LinkPoints n link count) where
     pub pair-lowers : (i : ℕ) → i < count → Lowers r n count (λ j. lowerPair r n (link i) (link j))
-    pair-lowers i hi j hj t s = pair-lowered (link i) (link j) (p .act-below i hi) (p .con-below j hj) t s
+    unfolding lowerPair
+    pair-lowers i hi j hj t s =
+        by-test (Lowered r n t) (eqb (link j .con) (link i .con)) (lowered-refl r n t s)
+        (cell-lowered r h n (link i .act) (link j .con) (lowered (link i) (link j) (tableOf r n t (link i .con) (link j .con))) t (p .act-below i hi)
+        (p .con-below j hj) s)
 
     pub link-lowers : Lowers r n count (λ i. lowerLink r n link count (link i))
     unfolding lowerLink
@@ -119,11 +111,9 @@ module _ (r : Ranges) (h : Coherent r) (n : ℕ) where
   unfolding linkEdges
   edges-lowers link count p i hi t s =
       let k : Link = link i in
-      let u : List ℤ = lowerCell r n (k .act) (k .con) (num (pos (k .long))) t in
-      let first : Lowered r n t u =
-      cell-lowered r h n (k .act) (k .con) (num (pos (k .long))) t (p .act-below i hi) (p .con-below i hi) s in
-      lowered-trans r n t u (linkEdges r n k t) first
-      (cell-lowered r h n (k .con) (k .act) (num (negℤ (pos (k .short)))) u (p .con-below i hi) (p .act-below i hi) (first .sound))
+      lowered-then (cell-lowered r h n (k .act) (k .con) (num (pos (k .long))) t (p .act-below i hi) (p .con-below i hi) s)
+      (cell-lowered r h n (k .con) (k .act) (num (negℤ (pos (k .short)))) (lowerCell r n (k .act) (k .con) (num (pos (k .long))) t) (p .con-below i hi)
+      (p .act-below i hi))
 
   -- ---- a whole sweep
 
@@ -131,18 +121,11 @@ module _ (r : Ranges) (h : Coherent r) (n : ℕ) where
     pub strict-lowers : (t : List ℤ) → Sound r n t → Lowered r n t (sweepStrict r n link count t)
     unfolding sweepStrict
     strict-lowers t s =
-        let a : Lowered r n t (joinAll r n t) = joins-lower t s in
         let u : List ℤ = joinAll r n t in
-        let b : Lowered r n u (lowerAll r n link count u) = lower-lowers link count p u (a .sound) in
-        let v : List ℤ = lowerAll r n link count u in
-        lowered-trans r n t u (upperAll r n link count v) a
-        (lowered-trans r n u v (upperAll r n link count v) b (upper-lowers link count p v (b .sound)))
+        lowered-then (lowered-then (joins-lower t s) (lower-lowers link count p u)) (upper-lowers link count p (lowerAll r n link count u))
 
     pub open-sweep-lowers : (strict t : List ℤ) → Sound r n t → Lowered r n t (sweepOpen r n link count strict t)
     unfolding sweepOpen
     open-sweep-lowers strict t s =
-        let a : Lowered r n t (openAll r n strict t) = open-lowers strict t s in
         let u : List ℤ = openAll r n strict t in
-        let b : Lowered r n u (caseAll r n link count u) = case-lowers link count p u (a .sound) in
-        let v : List ℤ = caseAll r n link count u in
-        lowered-trans r n t u (joinAll r n v) a (lowered-trans r n u v (joinAll r n v) b (joins-lower v (b .sound)))
+        lowered-then (lowered-then (open-lowers strict t s) (case-lowers link count p u)) (joins-lower (caseAll r n link count u))

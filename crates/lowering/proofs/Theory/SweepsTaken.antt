@@ -16,8 +16,8 @@ use Rattle.lowering.specs.Spread.{rowBy}
 use Rattle.lowering.proofs.Theory.StoredNumbers.{clamped-mono}
 use Rattle.lowering.proofs.Theory.LoweredTables.{cell-lowered, after-lowering}
 use Rattle.lowering.proofs.Theory.WalksKept.{Has, Walked, cell-walked, PlanLinks}
-use Rattle.lowering.proofs.Theory.StepsTaken.{Keeps, Reaches, Steps, one, both, each, Among, Puts, keeps, reaches, rule-keeps, rule-reaches}
-use Rattle.lowering.proofs.Theory.LinkRules.{read-rule, lower-steps, upper-rule, case-rule, strict-rule}
+use Rattle.lowering.proofs.Theory.StepsTaken.{Keeps, Reaches, Steps, one, both, each, Among, Rule, Puts, keeps, reaches, reached, rule-keeps, rule-reaches}
+use Rattle.lowering.proofs.Theory.LinkRules.{join-rule, read-rule, lower-steps, upper-rule, case-rule, strict-rule}
 
 -- what a sweep brings a cell down to, it does whatever the table after is
 abbrev pub Any : List ℤ → Type 0
@@ -52,20 +52,17 @@ module _ (E : ℕ → ℕ → ℤ → Type 0) (r : Ranges) (h : Coherent r) (n :
   row-keeps y x hy hx t w = keeps cells (row-steps y x (tableOf r n t x y) hy hx (w .has x y hx hy)) t w
 
   -- the row reads its cell to y before its joins
-  row-reaches : (y x z : ℕ) → y < n → x < n → z < n → Reaches (Walked E r n) Any r n (joinRow r n y x) x z (λ t. tableOf r n t x y +ᶜ tableOf r n t y z)
+  row-reaches : (y x z : ℕ) → y < n → x < n → z < n
+      → Reaches (Walked E r n) Any r n x z (λ t. tableOf r n t x y +ᶜ tableOf r n t y z) (joinRow r n y x)
   unfolding joinRow joinCell
-  row-reaches y x z hy hx hz =
-      record {
-        from-below = hx;
-        to-below = hz;
-        reached = λ s t k a.
-            let at : List ℤ → ℕ → ℕ → Cell = tableOf r n in
-            let has : Has E x y (at t x y) = k .holds .has x y hx hy in
-            ≤ᶜ-trans (at (joinRow r n y x t) x z) (clamped (r .reach) (at t x y +ᶜ at s y z)) (clamped (r .reach) (at s x y +ᶜ at s y z))
-            (reaches cells (row-steps y x (at t x y) hy hx has) (z, hz, rule-reaches cells (read-rule E r n x y z (at t x y) hx hy hz has)) .reached s t k a)
-            (clamped-mono (r .reach) (at t x y +ᶜ at s y z) (at s x y +ᶜ at s y z)
-            (+ᶜ-mono (at t x y) (at s x y) (at s y z) (at s y z) (k .low .down x y hx hy) (≤ᶜ-refl (at s y z))));
-      }
+  row-reaches y x z hy hx hz s t k a =
+      let at : List ℤ → ℕ → ℕ → Cell = tableOf r n in
+      let has : Has E x y (at t x y) = k .holds .has x y hx hy in
+      let rule : Rule E r n x z (λ u. at t x y +ᶜ at u y z) = read-rule E r n x y z (at t x y) hx hy hz has in
+      ≤ᶜ-trans (at (joinRow r n y x t) x z) (clamped (r .reach) (at t x y +ᶜ at s y z)) (clamped (r .reach) (at s x y +ᶜ at s y z))
+      (reaches cells rule (row-steps y x (at t x y) hy hx has) (z, hz, rule-reaches cells rule) s t k a)
+      (clamped-mono (r .reach) (at t x y +ᶜ at s y z) (at s x y +ᶜ at s y z)
+      (+ᶜ-mono (at t x y) (at s x y) (at s y z) (at s y z) (k .low .down x y hx hy) (≤ᶜ-refl (at s y z))))
 
   abbrev pub middle-steps : (y : ℕ) → y < n → Steps (Walked E r n) r n (iter (joinRow r n y) n)
   middle-steps y hy = each n (λ x hx. one (row-keeps y x hy hx))
@@ -82,10 +79,11 @@ module _ (E : ℕ → ℕ → ℤ → Type 0) (r : Ranges) (h : Coherent r) (n :
   joins-keep = keeps cells join-steps
 
   -- a middle brings each cell down to the sum of two along it
-  pub middle-reaches : (x y z : ℕ) → x < n → y < n → z < n
-      → Reaches (Walked E r n) Any r n (joinMiddle r n y) x z (λ t. tableOf r n t x y +ᶜ tableOf r n t y z)
+  pub middle-reached : (x y z : ℕ) → x < n → y < n → z < n → (t : List ℤ) → Walked E r n t
+      → tableOf r n (joinMiddle r n y t) x z ≤ᶜ clamped (r .reach) (tableOf r n t x y +ᶜ tableOf r n t y z)
   unfolding joinMiddle
-  middle-reaches x y z hx hy hz = reaches cells (middle-steps y hy) (x, hx, row-reaches y x z hy hx hz)
+  middle-reached x y z hx hy hz t w =
+      reached cells (join-rule E r n x y z hx hy hz) (middle-steps y hy) (x, hx, row-reaches y x z hy hx hz) t w tt
 
   pub join-among : (x y z : ℕ) → x < n → y < n → z < n
       → Among (Walked E r n) Any r n x z (λ t. tableOf r n t x y +ᶜ tableOf r n t y z) join-steps
