@@ -18,7 +18,7 @@ use Rattle.cell.specs.Steps.{smallerᶜ, Stored, clamped, numberOf}
 use Rattle.lowering.specs.Table.{Sound}
 use Rattle.lowering.specs.Fair.{Fair}
 use Rattle.lowering.specs.Sweep.{iter, lowerCell}
-use Rattle.cell.proofs.StoredCells.{≤ᶜ-refl, ≤ᶜ-trans, smaller-right, clamped-stored}
+use Rattle.cell.proofs.StoredCells.{≤ᶜ-refl, ≤ᶜ-trans, smaller-left, smaller-right, clamped-stored}
 use Rattle.lowering.proofs.Theory.StoredNumbers.{cell-of-number, smaller-keeps}
 
 -- u is t with cells lowered
@@ -46,9 +46,14 @@ pub lowered-then : {r : Ranges} {n : ℕ} {t u v : List ℤ} → Lowered r n t u
 lowered-then {r} {n} {t} {u} {v} a f = lowered-trans r n t u v a (f (a .sound))
 
 -- what both sides of a test keep
-pub by-test : (P : List ℤ → Type 0) (b : Bool) {t u : List ℤ} → P t → P u → P (cond b t u)
-by-test P true p q = p
-by-test P false p q = q
+pub by-test : (P : List ℤ → Type 0) (b : Bool) {t u : List ℤ} → (b ≡ true → P t) → (b ≡ false → P u) → P (cond b t u)
+by-test P true p q = p refl
+by-test P false p q = q refl
+
+-- a cell that was at most another stays so
+pub lowered-below : {r : Ranges} {n : ℕ} {t u : List ℤ} → Lowered r n t u → (x y : ℕ) → x < n → y < n → (c : Cell) → tableOf r n t x y ≤ᶜ c
+    → tableOf r n u x y ≤ᶜ c
+lowered-below {r} {n} {t} {u} l x y hx hy c q = ≤ᶜ-trans (tableOf r n u x y) (tableOf r n t x y) c (l .down x y hx hy) q
 
 -- a fair table was fair before it was lowered
 pub fair-before : {r : Ranges} {n : ℕ} {t u : List ℤ} → Sound r n t → Lowered r n t u → Fair r n u → Fair r n t
@@ -107,6 +112,12 @@ module _ (r : Ranges) (h : Coherent r) (n : ℕ) where
               (smaller-keeps (Stored (r .reach)) (clamped (r .reach) c) old (clamped-stored (r .reach) c) (s .stored x y hx hy)) (s .stored);
         };
       }
+
+  -- the cell is at most what is stored
+  pub cell-down : (x y : ℕ) (c : Cell) (t : List ℤ) → x < n → y < n → Sound r n t → tableOf r n (lowerCell r n x y c t) x y ≤ᶜ clamped (r .reach) c
+  cell-down x y c t hx hy s =
+      ⊎-elim (λ e. rw (e .1) (smaller-left (clamped (r .reach) c) (tableOf r n t x y))) (λ e. absurd (e .0 (refl, refl)))
+      (after-lowering x y c t s hx hy x y hx hy)
 
 -- ---- steps
 

@@ -20,12 +20,13 @@ use Rattle.cell.proofs.StoredCells.{≤ᶜ-trans, ≤ᶜ-antisym}
 use Rattle.lowering.specs.Table.{Sound}
 use Rattle.lowering.specs.Fair.{Fair}
 use Rattle.lowering.specs.Sweep.{joinAll, firstStrict, firstOpen}
-use Rattle.lowering.specs.Spread.{Copied, newEdge, caseEdges}
+use Rattle.lowering.specs.Spread.{Copied, caseEdges}
+use Rattle.lowering.proofs.Theory.LoweredTables.{lowered-below}
 use Rattle.lowering.proofs.Theory.WalksKept.{Has, has-open, Walked}
-use Rattle.lowering.proofs.Theory.StepsTaken.{Taken, Puts, keeps, reached, rule-reaches}
+use Rattle.lowering.proofs.Theory.StepsTaken.{Taken, keeps, reached, rule-reaches}
 use Rattle.lowering.proofs.Theory.LinkRules.{case-rule}
 use Rattle.lowering.proofs.Theory.SweepsTaken.{joins-keep}
-use Rattle.lowering.proofs.Theory.StillSweep.{AllLinks}
+use Rattle.lowering.proofs.Theory.StillSweep.{given-stays, AllLinks}
 use Rattle.lowering.proofs.Theory.FirstTables.{AllLimits}
 use Rattle.lowering.proofs.Theory.SweepsEnd.{Going, first-given, first-going, first-strict-kept, lowered-kept, kept-trans}
 use Rattle.lowering.proofs.Theory.OneJoinPass.{warshall-full, warshall-joined}
@@ -87,9 +88,7 @@ module _ (p : Plan) (r : Ranges) (h : Coherent r) (g : Pointed p) (b : Weighted 
   pub joined-given : (x y : ℕ) (w : ℤ) → Given p x y w
       → tableOf r (p .points) (joinAll r (p .points) (firstStrict r (p .points) limit limits link links t)) x y ≤ᶜ num w
   unfolding joined first
-  joined-given x y w e =
-      let q : Ends p x y = given-ends p g e in
-      ≤ᶜ-trans (tableOf r (p .points) joined x y) (tableOf r (p .points) first x y) (num w) (pass .low .down x y (q .from) (q .to)) (going .given-below x y w e)
+  joined-given = given-stays g (pass .low) (going .given-below)
 
   -- and as rounds carry it
   pub joined-carried : Carried (Derivable p) p r (joinAll r (p .points) (firstStrict r (p .points) limit limits link links t))
@@ -105,9 +104,7 @@ module _ (p : Plan) (r : Ranges) (h : Coherent r) (g : Pointed p) (b : Weighted 
             record {
               zeros = λ x hx.
                   ≤ᶜ-antisym (tableOf r (p .points) joined x x) (num (pos zero))
-                  (≤ᶜ-trans (tableOf r (p .points) joined x x) (tableOf r (p .points) first x x) (num (pos zero)) (pass .low .down x x hx hx)
-                  (going .strict-diagonal x hx))
-                  (f .diagonal x hx);
+                  (lowered-below (pass .low) x x hx hx (num (pos zero)) (going .strict-diagonal x hx)) (f .diagonal x hx);
               join = warshall-joined p r h g b few first walked (going .given-below) (going .strict-diagonal) f;
             };
       }
@@ -144,12 +141,9 @@ module _ (p : Plan) (r : Ranges) (h : Coherent r) (g : Pointed p) (link : ℕ �
             };
       }
 
-  taking : Puts (Open p) r (p .points) (Carried (Open p) p r) (Fair r (p .points)) (newEdge r (p .points))
-  taking = open-edges p r h link count (l .links)
-
   -- with every lower-case edge taken
   pub cases-taken : Taken (Carried (Open p) p r) r (p .points) v (caseEdges r (p .points) link count v)
-  cases-taken = keeps taking (case-steps p r h link count (l .links)) v copied-carried
+  cases-taken = keeps (open-edges p r h) (case-steps p r h link count (l .links)) v copied-carried
 
   -- it is under the strict table
   cases-under : (x y : ℕ) → x < p .points → y < p .points
@@ -178,7 +172,7 @@ module _ (p : Plan) (r : Ranges) (h : Coherent r) (g : Pointed p) (link : ℕ �
             (cases-under x y (q .from) (q .to)) (given x y w e);
         open-cases = λ f i hi.
             let o = case-rule p r link count (l .links) i hi in
-            reached taking o (case-steps p r h link count (l .links)) (i, hi, rule-reaches taking o) v copied-carried f;
+            reached (open-edges p r h) o (case-steps p r h link count (l .links)) (i, hi, rule-reaches (open-edges p r h) o) v copied-carried f;
         open-lower = λ f i j hi hj. cases-stored (link i .act) (link j .con) (l .links .points .act-below i hi) (l .links .points .con-below j hj);
         open-upper = λ f x i hx hi. cases-stored x (link i .act) hx (l .links .points .act-below i hi);
       }

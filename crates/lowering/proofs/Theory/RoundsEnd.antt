@@ -15,21 +15,21 @@ use Rattle.rules.specs.Cells.{Cell, mark, num, _≤ᶜ_, lowered, uppered, tabl
 use Rattle.rules.specs.Tables.{Tables}
 use Rattle.rules.proofs.Cells.{AtMost, at-most, by-at-most, under, sum, raised, lowered-at-most, uppered-at-most}
 use Rattle.rules.proofs.Walks.{single, append, Dominated}
-use Rattle.rules.proofs.Points.{Pointed, Ends, given-ends, derivable-ends}
+use Rattle.rules.proofs.Points.{Pointed, derivable-ends}
 use Rattle.rules.proofs.Justified.{justified-closed}
 use Rattle.rules.proofs.TablesClosed.{as-open}
 use Rattle.cell.specs.Steps.{clamped}
-use Rattle.cell.proofs.StoredCells.{≤ᶜ-trans, ≤ᶜ-mark, clamped-within}
+use Rattle.cell.proofs.StoredCells.{≤ᶜ-mark, clamped-within}
 use Rattle.lowering.specs.Fair.{Fair}
 use Rattle.lowering.specs.Spread.{newEdge, lowerEdge, lowerEdges, lowerRound, upperEdge, upperEdges, upperRound, strictRound, caseEdge, caseEdges, followLower, followLowers, followUpper, followUppers, followLink, openRound}
-use Rattle.lowering.proofs.Theory.LoweredTables.{fair-before}
+use Rattle.lowering.proofs.Theory.LoweredTables.{lowered-below, fair-before}
 use Rattle.lowering.proofs.Theory.WalksKept.{Has, Walked, PlanLinks}
 use Rattle.lowering.proofs.Theory.StoredNumbers.{exact}
-use Rattle.lowering.proofs.Theory.StillSweep.{AllLinks, each-link, two-links}
+use Rattle.lowering.proofs.Theory.StillSweep.{given-stays, AllLinks, each-link, two-links}
 use Rattle.lowering.proofs.Theory.StepsTaken.{Taken, Steps, one, both, each, Among, Rule, Puts, keeps, reached, rule-keeps, rule-reaches, still-obeys}
 use Rattle.lowering.proofs.Theory.LinkRules.{lower-rule, lower-steps, lower-among, upper-rule, case-rule, strict-rule}
 use Rattle.lowering.proofs.Theory.SpreadSteps.{edge-keeps}
-use Rattle.lowering.proofs.Theory.SpreadKeepsJoined.{Shut, edge-shut, edge-under}
+use Rattle.lowering.proofs.Theory.SpreadKeepsJoined.{Shut, Full, edge-shut, edge-under}
 
 -- a table over a family of edges, as rounds carry it
 pub record Carried (E : ℕ → ℕ → ℤ → Type 0) (p : Plan) (r : Ranges) (t : List ℤ) : Type 0 where
@@ -44,19 +44,16 @@ module _ (E : ℕ → ℕ → ℤ → Type 0) (p : Plan) (r : Ranges) (h : Coher
     after : List ℤ
     after = newEdge r (p .points) a b c t
 
-    abbrev cell : ℕ → ℕ → Cell
-    cell x y = tableOf r (p .points) after x y
-
     taken : Taken (Walked E r (p .points)) r (p .points) t after
     unfolding after
     taken = edge-keeps E r h (p .points) a b c ha hb k t (s .walks)
 
-    full-after : (x z : ℕ) (v : ℤ) → x < p .points → z < p .points → Walk (Open p) x z v → AtMost (cell x z) (pos (r .reach))
+    full-after : (x z : ℕ) (v : ℤ) → x < p .points → z < p .points → Walk (Open p) x z v
+        → AtMost (tableOf r (p .points) after x z) (pos (r .reach))
     full-after x z v hx hz q = under (taken .low .down x z hx hz) (s .full x z v hx hz q)
 
     -- two cells that are numbers, one after the other: the pair has a walk
-    joined-full : (x y z : ℕ) (v₁ v₂ : ℤ) → x < p .points → y < p .points → z < p .points → cell x y ≡ num v₁ → cell y z ≡ num v₂
-        → AtMost (cell x z) (pos (r .reach))
+    joined-full : Full r h (p .points) after
     joined-full x y z v₁ v₂ hx hy hz e₁ e₂ =
         let first : Dominated E x y v₁ = subst (Has E x y) e₁ (taken .holds .has x y hx hy) in
         let second : Dominated E y z v₂ = subst (Has E y z) e₂ (taken .holds .has y z hy hz) in
@@ -88,39 +85,29 @@ module _ (E : ℕ → ℕ → ℤ → Type 0) (p : Plan) (r : Ranges) (h : Coher
   -- taking edges
   edges-taken : Puts E r (p .points) (Carried E p r) (Fair r (p .points)) (newEdge r (p .points))
   edges-taken =
-      record {
-        walks = λ t s. s .walks;
-        before = λ t u s d f. fair-before (s .walks .sound) d f;
-        puts = edge-carried;
-        down = edge-down;
-      }
+      record { walks = λ t s. s .walks; before = λ t u s d f. fair-before (s .walks .sound) d f; puts = edge-carried; down = edge-down }
 
 -- ---- rounds
 
-module _ (p : Plan) (r : Ranges) (h : Coherent r) (link : ℕ → Link) (count : ℕ) (l : PlanLinks p link count) where
-  abbrev pub Strict : List ℤ → Type 0
-  Strict = Carried (Derivable p) p r
-
-  abbrev pub Weak : List ℤ → Type 0
-  Weak = Carried (Open p) p r
-
-  pub strict-edges : Puts (Derivable p) r (p .points) Strict (Fair r (p .points)) (newEdge r (p .points))
+module _ (p : Plan) (r : Ranges) (h : Coherent r) where
+  pub strict-edges : Puts (Derivable p) r (p .points) (Carried (Derivable p) p r) (Fair r (p .points)) (newEdge r (p .points))
   strict-edges = edges-taken (Derivable p) p r h (λ x z s k. as-open k)
 
-  pub open-edges : Puts (Open p) r (p .points) Weak (Fair r (p .points)) (newEdge r (p .points))
+  pub open-edges : Puts (Open p) r (p .points) (Carried (Open p) p r) (Fair r (p .points)) (newEdge r (p .points))
   open-edges = edges-taken (Open p) p r h (λ x z s k. k)
 
+module _ (p : Plan) (r : Ranges) (h : Coherent r) (link : ℕ → Link) (count : ℕ) (l : PlanLinks p link count) where
   -- the strict table: Lower, Upper
-  unfoldable pub strict-steps : Steps Strict r (p .points) (strictRound r (p .points) link count)
+  unfoldable pub strict-steps : Steps (Carried (Derivable p) p r) r (p .points) (strictRound r (p .points) link count)
   unfolding strictRound lowerRound lowerEdges lowerEdge upperRound upperEdges upperEdge
   strict-steps =
-      both (lower-steps p r link count l strict-edges)
-      (each count (λ i hi. each (p .points) (λ x hx. one (rule-keeps strict-edges (upper-rule p r link count l x i hx hi)))))
+      both (lower-steps p r link count l (strict-edges p r h))
+      (each count (λ i hi. each (p .points) (λ x hx. one (rule-keeps (strict-edges p r h) (upper-rule p r link count l x i hx hi)))))
 
   -- the open one, to begin with: the lower-case edges
-  unfoldable pub case-steps : Steps Weak r (p .points) (caseEdges r (p .points) link count)
+  unfoldable pub case-steps : Steps (Carried (Open p) p r) r (p .points) (caseEdges r (p .points) link count)
   unfolding caseEdges caseEdge
-  case-steps = each count (λ i hi. one (rule-keeps open-edges (case-rule p r link count l i hi)))
+  case-steps = each count (λ i hi. one (rule-keeps (open-edges p r h) (case-rule p r link count l i hi)))
 
   -- and in each round: the strict cells wherever Lower leads, and wherever Upper does
   module _ (strict : List ℤ) (w : Walked (Derivable p) r (p .points) strict) where
@@ -132,12 +119,12 @@ module _ (p : Plan) (r : Ranges) (h : Coherent r) (link : ℕ → Link) (count :
         → Rule (Open p) r (p .points) x (link i .act) (λ t. tableOf r (p .points) strict x (link i .act))
     upper-cell x i hx hi = strict-rule p r link count l strict w x (link i .act) hx (l .points .act-below i hi)
 
-    unfoldable pub open-steps : Steps Weak r (p .points) (openRound r (p .points) strict link count)
+    unfoldable pub open-steps : Steps (Carried (Open p) p r) r (p .points) (openRound r (p .points) strict link count)
     unfolding openRound followLink followLowers followLower followUppers followUpper
     open-steps =
         each count (λ i hi.
-        both (each count (λ j hj. one (rule-keeps open-edges (lower-cell i j hi hj))))
-        (each (p .points) (λ x hx. one (rule-keeps open-edges (upper-cell x i hx hi)))))
+        both (each count (λ j hj. one (rule-keeps (open-edges p r h) (lower-cell i j hi hj))))
+        (each (p .points) (λ x hx. one (rule-keeps (open-edges p r h) (upper-cell x i hx hi)))))
 
 -- ---- where the rounds stand, and how they end
 
@@ -159,12 +146,6 @@ module _ (p : Plan) (r : Ranges) (h : Coherent r) (g : Pointed p) (link : ℕ �
   abbrev at : List ℤ → ℕ → ℕ → Cell
   at t x y = tableOf r (p .points) t x y
 
-  abbrev taking : Puts (Derivable p) r (p .points) (Carried (Derivable p) p r) (Fair r (p .points)) (newEdge r (p .points))
-  taking = strict-edges p r h link count (l .links)
-
-  abbrev taking-open : Puts (Open p) r (p .points) (Carried (Open p) p r) (Fair r (p .points)) (newEdge r (p .points))
-  taking-open = open-edges p r h link count (l .links)
-
   -- a round of both
   pub rounds-on : Rounds p r link count (strictRound r (p .points) link count strict)
       (openRound r (p .points) (strictRound r (p .points) link count strict) link count weak)
@@ -172,31 +153,24 @@ module _ (p : Plan) (r : Ranges) (h : Coherent r) (g : Pointed p) (link : ℕ �
   rounds-on =
       let u : List ℤ = strictRound r (p .points) link count strict in
       let v : List ℤ = openRound r (p .points) u link count weak in
-      let tu : Taken (Carried (Derivable p) p r) r (p .points) strict u = keeps taking (strict-steps p r h link count (l .links)) strict (s .strict-carried) in
+      let tu : Taken (Carried (Derivable p) p r) r (p .points) strict u = keeps (strict-edges p r h) (strict-steps p r h link count (l .links)) strict (s .strict-carried) in
       let w : Walked (Derivable p) r (p .points) u = tu .holds .walks in
       let steps : Steps (Carried (Open p) p r) r (p .points) (openRound r (p .points) u link count) = open-steps p r h link count (l .links) u w in
-      let tv : Taken (Carried (Open p) p r) r (p .points) weak v = keeps taking-open steps weak (s .open-carried) in
+      let tv : Taken (Carried (Open p) p r) r (p .points) weak v = keeps (open-edges p r h) steps weak (s .open-carried) in
       record {
         strict-carried = tu .holds;
         open-carried = tv .holds;
-        strict-given = λ x y w e.
-            let q : Ends p x y = given-ends p g e in
-            ≤ᶜ-trans (at u x y) (at strict x y) (num w) (tu .low .down x y (q .from) (q .to)) (s .strict-given x y w e);
-        open-given = λ x y w e.
-            let q : Ends p x y = given-ends p g e in
-            ≤ᶜ-trans (at v x y) (at weak x y) (num w) (tv .low .down x y (q .from) (q .to)) (s .open-given x y w e);
+        strict-given = given-stays g (tu .low) (s .strict-given);
+        open-given = given-stays g (tv .low) (s .open-given);
         open-cases = λ f i hi.
-            let x : ℕ = link i .act in
-            let y : ℕ = link i .con in
-            ≤ᶜ-trans (at v x y) (at weak x y) (clamped (r .reach) (num (pos (link i .short))))
-            (tv .low .down x y (l .links .points .act-below i hi) (l .links .points .con-below i hi))
-            (s .open-cases (fair-before (s .open-carried .walks .sound) (tv .low) f) i hi);
+            lowered-below (tv .low) (link i .act) (link i .con) (l .links .points .act-below i hi) (l .links .points .con-below i hi)
+            (clamped (r .reach) (num (pos (link i .short)))) (s .open-cases (fair-before (s .open-carried .walks .sound) (tv .low) f) i hi);
         open-lower = λ f i j hi hj.
             let o = lower-cell p r h link count (l .links) u w i j hi hj in
-            reached taking-open o steps (i, hi, inl (j, hj, rule-reaches taking-open o)) weak (s .open-carried) f;
+            reached (open-edges p r h) o steps (i, hi, inl (j, hj, rule-reaches (open-edges p r h) o)) weak (s .open-carried) f;
         open-upper = λ f x i hx hi.
             let o = upper-cell p r h link count (l .links) u w x i hx hi in
-            reached taking-open o steps (i, hi, inr (x, hx, rule-reaches taking-open o)) weak (s .open-carried) f;
+            reached (open-edges p r h) o steps (i, hi, inr (x, hx, rule-reaches (open-edges p r h) o)) weak (s .open-carried) f;
       }
 
   module _ (same : strictRound r (p .points) link count strict ≡ strict) (fs : Fair r (p .points) strict) (fw : Fair r (p .points) weak) where
@@ -210,7 +184,7 @@ module _ (p : Plan) (r : Ranges) (h : Coherent r) (g : Pointed p) (link : ℕ �
     obeys : {x y : ℕ} {rule : List ℤ → Cell} → Rule (Derivable p) r (p .points) x y rule
         → Among (Carried (Derivable p) p r) (Fair r (p .points)) r (p .points) x y rule (strict-steps p r h link count (l .links)) → at strict x y ≤ᶜ rule strict
     obeys {x} {y} o q =
-        still-obeys taking o (strict-steps p r h link count (l .links)) q strict (s .strict-carried) same fs (fs .within x y (o .from-below) (o .to-below))
+        still-obeys (strict-edges p r h) o (strict-steps p r h link count (l .links)) q strict (s .strict-carried) same fs (fs .within x y (o .from-below) (o .to-below))
         (λ v k. s .strict-carried .full x y v (o .from-below) (o .to-below) (as-open k))
 
     lower-strict : (k j : Link) → List·Memᴰ k (p .links) → List·Memᴰ j (p .links) → j .con ≢ k .con
@@ -218,13 +192,13 @@ module _ (p : Plan) (r : Ranges) (h : Coherent r) (g : Pointed p) (link : ℕ �
     unfolding strict-steps
     lower-strict =
         two-links l (λ k j. j .con ≢ k .con → at strict (k .act) (j .con) ≤ᶜ lowered k j (at strict (k .con) (j .con)))
-        (λ i j hi hj ne. obeys (lower-rule p r link count (l .links) i j hi hj ne) (inl (lower-among p r link count (l .links) taking i j hi hj ne)))
+        (λ i j hi hj ne. obeys (lower-rule p r link count (l .links) i j hi hj ne) (inl (lower-among p r link count (l .links) (strict-edges p r h) i j hi hj ne)))
 
     upper-strict : (k : Link) → List·Memᴰ k (p .links) → (x : ℕ) → x < p .points → at strict x (k .act) ≤ᶜ uppered k (at strict x (k .con))
     unfolding strict-steps
     upper-strict =
         each-link l (λ k. (x : ℕ) → x < p .points → at strict x (k .act) ≤ᶜ uppered k (at strict x (k .con)))
-        (λ i hi x hx. let o = upper-rule p r link count (l .links) x i hx hi in obeys o (inr (i, hi, (x, hx, rule-reaches taking o))))
+        (λ i hi x hx. let o = upper-rule p r link count (l .links) x i hx hi in obeys o (inr (i, hi, (x, hx, rule-reaches (strict-edges p r h) o))))
 
     -- what is stored of a strict cell is the cell
     follows : (x y : ℕ) → x < p .points → y < p .points → at weak x y ≤ᶜ clamped (r .reach) (at strict x y) → at weak x y ≤ᶜ at strict x y

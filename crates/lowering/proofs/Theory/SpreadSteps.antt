@@ -27,8 +27,8 @@ module _ (r : Ranges) (h : Coherent r) (n : ℕ) where
   pub spread-row-lowers : (a b : ℕ) (w : Cell) → Lowers r n n (spreadRow r n a b w)
   unfolding spreadRow
   spread-row-lowers a b w x hx t s =
-      by-test (Lowered r n t) (belowᶜ (tableOf r n t x a +ᶜ w) (tableOf r n t x b)) (row-by-lowered b x (tableOf r n t x a +ᶜ w) hx t s)
-      (lowered-refl r n t s)
+      by-test (Lowered r n t) (belowᶜ (tableOf r n t x a +ᶜ w) (tableOf r n t x b))
+      (λ e. row-by-lowered b x (tableOf r n t x a +ᶜ w) hx t s) (λ e. lowered-refl r n t s)
 
   pub spread-lowered : (a b : ℕ) (w : Cell) (t : List ℤ) → Sound r n t → Lowered r n t (spreadAll r n a b w t)
   unfolding spreadAll
@@ -38,13 +38,13 @@ module _ (r : Ranges) (h : Coherent r) (n : ℕ) where
   unfolding takeEdge
   take-lowered a b w ha t s =
       by-test (Lowered r n t) (belowᶜ (w +ᶜ tableOf r n t b a) (num (pos zero)))
-      (cell-lowered r h n a a (w +ᶜ tableOf r n t b a) t ha ha s) (spread-lowered a b w t s)
+      (λ e. cell-lowered r h n a a (w +ᶜ tableOf r n t b a) t ha ha s) (λ e. spread-lowered a b w t s)
 
   pub edge-lowered : (a b : ℕ) (c : Cell) → a < n → (t : List ℤ) → Sound r n t → Lowered r n t (newEdge r n a b c t)
   unfolding newEdge
   edge-lowered a b c ha t s =
-      by-test (Lowered r n t) (belowᶜ (clamped (r .reach) c) (tableOf r n t a b)) (take-lowered a b (clamped (r .reach) c) ha t s)
-      (lowered-refl r n t s)
+      by-test (Lowered r n t) (belowᶜ (clamped (r .reach) c) (tableOf r n t a b))
+      (λ e. take-lowered a b (clamped (r .reach) c) ha t s) (λ e. lowered-refl r n t s)
 
   pub upper-edge-lowers : (k : Link) → Lowers r n n (upperEdge r n k)
   unfolding upperEdge
@@ -62,8 +62,8 @@ module _ (r : Ranges) (h : Coherent r) (n : ℕ) where
     pub lower-edge-lowers : (i : ℕ) → i < count → Lowers r n count (λ j. lowerEdge r n (link i) (link j))
     unfolding lowerEdge
     lower-edge-lowers i hi j hj t s =
-        by-test (Lowered r n t) (eqb (link j .con) (link i .con)) (lowered-refl r n t s)
-        (edge-lowered (link i .act) (link j .con) (lowered (link i) (link j) (tableOf r n t (link i .con) (link j .con))) (p .act-below i hi) t s)
+        by-test (Lowered r n t) (eqb (link j .con) (link i .con)) (λ e. lowered-refl r n t s)
+        (λ e. edge-lowered (link i .act) (link j .con) (lowered (link i) (link j) (tableOf r n t (link i .con) (link j .con))) (p .act-below i hi) t s)
 
     pub lower-edges-lowers : Lowers r n count (λ i. lowerEdges r n link count (link i))
     unfolding lowerEdges
@@ -120,11 +120,14 @@ edge-keeps E r h n a b c ha hb k t m =
     let w : Cell = clamped (r .reach) c in
     let kw : Has E a b w = has-stored E a b (r .reach) c k in
     by-test (Taken (Walked E r n) r n t) (belowᶜ w (at t a b))
-    (by-test (Taken (Walked E r n) r n t) (belowᶜ (w +ᶜ at t b a) (num (pos zero)))
-    (rule-keeps (cells E r h n) (read-rule E r n a b a w ha hb ha kw) t m)
-    (keeps (cells E r h n)
+    (λ e.
+    by-test (Taken (Walked E r n) r n t) (belowᶜ (w +ᶜ at t b a) (num (pos zero)))
+    (λ e. rule-keeps (cells E r h n) (read-rule E r n a b a w ha hb ha kw) t m)
+    (λ e.
+    keeps (cells E r h n)
     (each n (λ x hx.
     one (λ u v.
     by-test (Taken (Walked E r n) r n u) (belowᶜ (at u x a +ᶜ w) (at u x b))
-    (row-by-keeps E r h n b x (at u x a +ᶜ w) hb hx (has-sum E x a b (at u x a) w (v .has x a hx ha) kw) u v) (taken-none (cells E r h n) u v)))) t m))
-    (taken-none (cells E r h n) t m)
+    (λ e. row-by-keeps E r h n b x (at u x a +ᶜ w) hb hx (has-sum E x a b (at u x a) w (v .has x a hx ha) kw) u v)
+    (λ e. taken-none (cells E r h n) u v)))) t m))
+    (λ e. taken-none (cells E r h n) t m)

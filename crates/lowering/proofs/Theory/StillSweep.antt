@@ -19,16 +19,17 @@ use Rattle.rules.specs.Cells.{Cell, num, _+ᶜ_, _≤ᶜ_, lowered, uppered, Wi
 use Rattle.rules.specs.Tables.{Tables, Closed}
 use Rattle.rules.proofs.Cells.{AtMost, at-most, under, sum, raised}
 use Rattle.rules.proofs.Walks.{Dominated}
-use Rattle.rules.proofs.Points.{Pointed, Weighted, given-ends}
+use Rattle.rules.proofs.Points.{Pointed, Weighted, Ends, given-ends}
 use Rattle.rules.proofs.Expansion.{basic-least, basic-given}
 use Rattle.rules.proofs.Shortening.{Trail, stop, go, trail-least, trail-most}
 use Rattle.rules.proofs.Reach.{GivenTrail, given-trail, given-most, floor}
 use Rattle.rules.proofs.Justified.{justified-closed}
 use Rattle.rules.proofs.TablesClosed.{as-open}
-use Rattle.lowering.specs.Sweep.{lowerCell, sweepStrict, sweepOpen}
+use Rattle.lowering.specs.Sweep.{sweepStrict, sweepOpen}
 use Rattle.lowering.proofs.Theory.StoredNumbers.{stored-at-most}
+use Rattle.lowering.proofs.Theory.LoweredTables.{Lowered, lowered-below}
 use Rattle.lowering.proofs.Theory.WalksKept.{Has, Walked, PlanLinks}
-use Rattle.lowering.proofs.Theory.StepsTaken.{Steps, Among, Rule, Puts, rule-reaches, still-down, still-obeys}
+use Rattle.lowering.proofs.Theory.StepsTaken.{Steps, Among, Rule, rule-reaches, still-down, still-obeys}
 use Rattle.lowering.proofs.Theory.LinkRules.{join-rule, lower-rule, lower-among, upper-rule, case-rule, strict-rule}
 use Rattle.lowering.proofs.Theory.SweepsTaken.{Any, join-among, strict-cells, open-cells, strict-steps, open-steps}
 
@@ -45,6 +46,11 @@ pub record Still (p : Plan) (r : Ranges) (link : ℕ → Link) (count : ℕ) (st
   pub strict-zero : (x : ℕ) → x < p .points → tableOf r (p .points) strict x x ≡ num (pos zero)
   pub open-zero : (x : ℕ) → x < p .points → tableOf r (p .points) weak x x ≡ num (pos zero)
   pub given-below : (x y : ℕ) (w : ℤ) → Given p x y w → tableOf r (p .points) strict x y ≤ᶜ num w
+
+-- what was under every given edge, and is lowered, is so
+pub given-stays : {p : Plan} {r : Ranges} {t u : List ℤ} → Pointed p → Lowered r (p .points) t u
+    → ((x y : ℕ) (w : ℤ) → Given p x y w → tableOf r (p .points) t x y ≤ᶜ num w) → (x y : ℕ) (w : ℤ) → Given p x y w → tableOf r (p .points) u x y ≤ᶜ num w
+given-stays {p} g d below x y w e = let q : Ends p x y = given-ends p g e in lowered-below d x y (q .from) (q .to) (num w) (below x y w e)
 
 -- the code's links are all of the plan's
 pub record AllLinks (p : Plan) (link : ℕ → Link) (count : ℕ) : Type 0 where
@@ -81,12 +87,6 @@ module _ (p : Plan) (r : Ranges) (h : Coherent r) (g : Pointed p) (b : Weighted 
     abbrev at : List ℤ → ℕ → ℕ → Cell
     at t x y = tableOf r (p .points) t x y
 
-    abbrev cells : Puts (Derivable p) r (p .points) (Walked (Derivable p) r (p .points)) Any (lowerCell r (p .points))
-    cells = strict-cells p r h link count (l .links)
-
-    abbrev weak-cells : Puts (Open p) r (p .points) (Walked (Open p) r (p .points)) Any (lowerCell r (p .points))
-    weak-cells = open-cells p r h link count (l .links)
-
     abbrev steps : Steps (Walked (Derivable p) r (p .points)) r (p .points) (sweepStrict r (p .points) link count)
     steps = strict-steps p r h link count (l .links)
 
@@ -108,7 +108,7 @@ module _ (p : Plan) (r : Ranges) (h : Coherent r) (g : Pointed p) (b : Weighted 
         let first : AtMost (at strict x y) v = at-most (s .given-below x y v e) in
         let rest : AtMost (at strict y z) w = along hy hz shorter k in
         under
-        (still-down cells (join-rule (Derivable p) r (p .points) x y z hx hy hz) steps
+        (still-down (strict-cells p r h) (join-rule (Derivable p) r (p .points) x y z hx hy hz) steps
         (inl (inl (join-among (Derivable p) r h (p .points) x y z hx hy hz))) strict (s .strict-walks) (s .strict-same) tt)
         (stored-at-most (r .reach) (at strict x y +ᶜ at strict y z)
         (omega (ints, neg (pos (r .reach)), neg (pos (r .weight * suc (length ps))))) (omega ints)
@@ -130,24 +130,24 @@ module _ (p : Plan) (r : Ranges) (h : Coherent r) (g : Pointed p) (b : Weighted 
     open-among : (x y : ℕ) → x < p .points → y < p .points → Among (Walked (Open p) r (p .points)) Any r (p .points) x y (λ t. at strict x y) weak-steps
     unfolding open-steps
     open-among x y hx hy =
-        inl (inl (x, hx, (y, hy, rule-reaches weak-cells (under-strict x y hx hy))))
+        inl (inl (x, hx, (y, hy, rule-reaches (open-cells p r h) (under-strict x y hx hy))))
 
     open-connected : {x z : ℕ} {t : ℤ} → x < p .points → z < p .points → Walk (Open p) x z t → AtMost (at weak x z) (pos (r .reach))
     open-connected {x} {z} hx hz k =
-        under (still-down weak-cells (under-strict x z hx hz) weak-steps (open-among x z hx hz) weak (s .open-walks) (s .open-same) tt)
+        under (still-down (open-cells p r h) (under-strict x z hx hz) weak-steps (open-among x z hx hz) weak (s .open-walks) (s .open-same) tt)
         (stored-at-most (r .reach) (at strict x z) (omega (ints, neg (pos (r .reach)))) (≤ℤ-refl (pos (r .reach))) (connected hx hz k))
 
     -- each rule of a sweep is obeyed
     strict-obeys : {x y : ℕ} {rule : List ℤ → Cell} → Rule (Derivable p) r (p .points) x y rule
         → Among (Walked (Derivable p) r (p .points)) Any r (p .points) x y rule steps → at strict x y ≤ᶜ rule strict
     strict-obeys {x} {y} o q =
-        still-obeys cells o steps q strict (s .strict-walks) (s .strict-same) tt (s .strict-within x y (o .from-below) (o .to-below))
+        still-obeys (strict-cells p r h) o steps q strict (s .strict-walks) (s .strict-same) tt (s .strict-within x y (o .from-below) (o .to-below))
         (λ v k. connected (o .from-below) (o .to-below) (as-open k))
 
     open-obeys : {x y : ℕ} {rule : List ℤ → Cell} → Rule (Open p) r (p .points) x y rule
         → Among (Walked (Open p) r (p .points)) Any r (p .points) x y rule weak-steps → at weak x y ≤ᶜ rule weak
     open-obeys {x} {y} o q =
-        still-obeys weak-cells o weak-steps q weak (s .open-walks) (s .open-same) tt (s .open-within x y (o .from-below) (o .to-below))
+        still-obeys (open-cells p r h) o weak-steps q weak (s .open-walks) (s .open-same) tt (s .open-within x y (o .from-below) (o .to-below))
         (λ v k. open-connected (o .from-below) (o .to-below) k)
 
     -- the tables are closed
@@ -167,16 +167,16 @@ module _ (p : Plan) (r : Ranges) (h : Coherent r) (g : Pointed p) (b : Weighted 
           lower =
               two-links l (λ k j. j .con ≢ k .con → at strict (k .act) (j .con) ≤ᶜ lowered k j (at strict (k .con) (j .con)))
               (λ i j hi hj ne.
-              strict-obeys (lower-rule p r link count (l .links) i j hi hj ne) (inl (inr (lower-among p r link count (l .links) cells i j hi hj ne))));
+              strict-obeys (lower-rule p r link count (l .links) i j hi hj ne) (inl (inr (lower-among p r link count (l .links) (strict-cells p r h) i j hi hj ne))));
           upper =
               each-link l (λ k. (x : ℕ) → x < p .points → at strict x (k .act) ≤ᶜ uppered k (at strict x (k .con)))
               (λ i hi x hx.
               let o = upper-rule p r link count (l .links) x i hx hi in
-              strict-obeys o (inr (x, hx, (i, hi, rule-reaches cells o))));
+              strict-obeys o (inr (x, hx, (i, hi, rule-reaches (strict-cells p r h) o))));
           open-strict = λ x y hx hy. open-obeys (under-strict x y hx hy) (open-among x y hx hy);
           open-lower-case =
               each-link l (λ k. at weak (k .act) (k .con) ≤ᶜ num (pos (k .short)))
-              (λ i hi. let o = case-rule p r link count (l .links) i hi in open-obeys o (inl (inr (i, hi, rule-reaches weak-cells o))));
+              (λ i hi. let o = case-rule p r link count (l .links) i hi in open-obeys o (inl (inr (i, hi, rule-reaches (open-cells p r h) o))));
         }
 
     -- so they are the plan's tables

@@ -41,8 +41,8 @@ module _ (r : Ranges) (h : Coherent r) (n : ℕ) where
     pub pair-lowers : (i : ℕ) → i < count → Lowers r n count (λ j. lowerPair r n (link i) (link j))
     unfolding lowerPair
     pair-lowers i hi j hj t s =
-        by-test (Lowered r n t) (eqb (link j .con) (link i .con)) (lowered-refl r n t s)
-        (cell-lowered r h n (link i .act) (link j .con) (lowered (link i) (link j) (tableOf r n t (link i .con) (link j .con))) t (p .act-below i hi)
+        by-test (Lowered r n t) (eqb (link j .con) (link i .con)) (λ e. lowered-refl r n t s)
+        (λ e. cell-lowered r h n (link i .act) (link j .con) (lowered (link i) (link j) (tableOf r n t (link i .con) (link j .con))) t (p .act-below i hi)
         (p .con-below j hj) s)
 
     pub link-lowers : Lowers r n count (λ i. lowerLink r n link count (link i))

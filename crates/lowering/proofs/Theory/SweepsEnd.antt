@@ -10,20 +10,20 @@ use Rattle.rules.proofs.Coherence.{Coherent}
 use Rattle.rules.specs.Edges as edges
 use Rattle.rules.specs.Edges.{Given, Derivable, Open}
 use Rattle.rules.specs.Walks.{Uncontrollable}
-use Rattle.rules.specs.Cells.{Cell, num, _≤ᶜ_, tableOf}
+use Rattle.rules.specs.Cells.{num, _≤ᶜ_, tableOf}
 use Rattle.rules.specs.Tables.{Tables}
 use Rattle.rules.specs.Calls.{Kept}
-use Rattle.rules.proofs.Points.{Pointed, Weighted, Ends, given-ends}
+use Rattle.rules.proofs.Points.{Pointed, Weighted}
 use Rattle.rules.proofs.Justified.{negative-diagonal}
 use Rattle.lowering.specs.Sweep.{markAll, firstStrict, firstOpen, sweepStrict, sweepOpen}
 use Rattle.lowering.specs.Fair.{Fair, Unfair, low, negative}
-use Rattle.cell.proofs.StoredCells.{≤ᶜ-trans, ≤ᶜ-antisym}
-use Rattle.lowering.proofs.Theory.LoweredTables.{Lowered}
+use Rattle.cell.proofs.StoredCells.{≤ᶜ-antisym}
+use Rattle.lowering.proofs.Theory.LoweredTables.{Lowered, lowered-below}
 use Rattle.lowering.proofs.Theory.SweepSteps.{open-sweep-lowers}
 use Rattle.lowering.proofs.Theory.WalksKept.{Has, has-open, Walked}
 use Rattle.lowering.proofs.Theory.StepsTaken.{Taken, keeps}
-use Rattle.lowering.proofs.Theory.SweepsTaken.{cells, strict-steps, open-steps}
-use Rattle.lowering.proofs.Theory.StillSweep.{AllLinks, low-uncontrollable, still-tables}
+use Rattle.lowering.proofs.Theory.SweepsTaken.{strict-cells, open-cells, strict-steps, open-steps}
+use Rattle.lowering.proofs.Theory.StillSweep.{given-stays, AllLinks, low-uncontrollable, still-tables}
 use Rattle.lowering.proofs.Theory.FirstTables.{AllMark, marks, marks-walked, AllLimits, diagonal-steps, diagonal-below, first-taken, first-below, first-diagonal}
 
 -- both tables have their walks, the strict one is under every given edge, and neither diagonal is above 0
@@ -68,7 +68,7 @@ module _ (p : Plan) (r : Ranges) (h : Coherent r) (g : Pointed p) (b : Weighted 
       marks-walked (Open p) r (p .points) weak wr in
       record {
         strict-walks = first-taken p r h g b limit limits al link links ak (Derivable p) inc strict sr .holds;
-        open-walks = keeps (cells (Open p) r h (p .points)) (diagonal-steps (Open p) r h (p .points)) (markAll r (p .points * p .points) weak) open-marks .holds;
+        open-walks = keeps (open-cells p r h) (diagonal-steps (Open p) r h (p .points)) (markAll r (p .points * p .points) weak) open-marks .holds;
         given-below = first-below p r h g b limit limits al link links ak (Derivable p) inc strict sr;
         strict-diagonal = first-diagonal p r h g b limit limits al link links ak (Derivable p) inc strict sr;
         open-diagonal = diagonal-below (Open p) r h (p .points) (markAll r (p .points * p .points) weak) open-marks;
@@ -78,9 +78,6 @@ module _ (p : Plan) (r : Ranges) (h : Coherent r) (g : Pointed p) (b : Weighted 
 
 module _ (p : Plan) (r : Ranges) (h : Coherent r) (g : Pointed p) (link : ℕ → Link) (links : ℕ) (ak : AllLinks p link links)
     (strict weak : List ℤ) (s : Going p r strict weak) where
-  abbrev at : List ℤ → ℕ → ℕ → Cell
-  at t x y = tableOf r (p .points) t x y
-
   -- a sweep of the open one, after any strict one, lowers it
   pub going-open-lowered : (other : List ℤ) → Lowered r (p .points) weak (sweepOpen r (p .points) link links other weak)
   going-open-lowered other = open-sweep-lowers r h (p .points) link links (ak .links .points) other weak (s .open-walks .sound)
@@ -92,17 +89,15 @@ module _ (p : Plan) (r : Ranges) (h : Coherent r) (g : Pointed p) (link : ℕ �
       let u : List ℤ = sweepStrict r (p .points) link links strict in
       let v : List ℤ = sweepOpen r (p .points) link links u weak in
       let tu : Taken (Walked (Derivable p) r (p .points)) r (p .points) strict u =
-      keeps (cells (Derivable p) r h (p .points)) (strict-steps p r h link links (ak .links)) strict (s .strict-walks) in
+      keeps (strict-cells p r h) (strict-steps p r h link links (ak .links)) strict (s .strict-walks) in
       let tv : Taken (Walked (Open p) r (p .points)) r (p .points) weak v =
-      keeps (cells (Open p) r h (p .points)) (open-steps p r h link links (ak .links) u (tu .holds)) weak (s .open-walks) in
+      keeps (open-cells p r h) (open-steps p r h link links (ak .links) u (tu .holds)) weak (s .open-walks) in
       record {
         strict-walks = tu .holds;
         open-walks = tv .holds;
-        given-below = λ x y w e.
-            let q : Ends p x y = given-ends p g e in
-            ≤ᶜ-trans (at u x y) (at strict x y) (num w) (tu .low .down x y (q .from) (q .to)) (s .given-below x y w e);
-        strict-diagonal = λ x hx. ≤ᶜ-trans (at u x x) (at strict x x) (num (pos zero)) (tu .low .down x x hx hx) (s .strict-diagonal x hx);
-        open-diagonal = λ x hx. ≤ᶜ-trans (at v x x) (at weak x x) (num (pos zero)) (tv .low .down x x hx hx) (s .open-diagonal x hx);
+        given-below = given-stays g (tu .low) (s .given-below);
+        strict-diagonal = λ x hx. lowered-below (tu .low) x x hx hx (num (pos zero)) (s .strict-diagonal x hx);
+        open-diagonal = λ x hx. lowered-below (tv .low) x x hx hx (num (pos zero)) (s .open-diagonal x hx);
       }
 
 -- ---- how they end

@@ -1,7 +1,5 @@
 -- What sweeps keep of a table whose cells have their walks, and what they bring its cells down to: joins, Lower and Upper for the strict table, the strict cells,
 -- the lower-case edges and joins for the open one. Over any coherent ranges. Assumes nothing.
-use mathlib.Core.Path.{refl, sym, subst}
-use mathlib.Core.Logic.{⊎-elim}
 use mathlib.Core.List.{List}
 use Prim.Native.Nat.{ℕ, _<_}
 use lib.IntN.{ℤ}
@@ -10,11 +8,11 @@ use Rattle.rules.proofs.Coherence.{Coherent}
 use Rattle.rules.specs.Edges.{Derivable, Open}
 use Rattle.rules.specs.Cells.{Cell, _+ᶜ_, _≤ᶜ_, tableOf}
 use Rattle.cell.specs.Steps.{clamped}
-use Rattle.cell.proofs.StoredCells.{≤ᶜ-refl, ≤ᶜ-trans, +ᶜ-mono, smaller-left}
+use Rattle.cell.proofs.StoredCells.{≤ᶜ-refl, ≤ᶜ-trans, +ᶜ-mono}
 use Rattle.lowering.specs.Sweep.{iter, lowerCell, joinCell, joinRow, joinMiddle, joinAll, lowerPair, lowerLink, lowerAll, upperCell, upperPoint, upperAll, openCell, openRow, openAll, caseLink, caseAll, sweepStrict, sweepOpen}
 use Rattle.lowering.specs.Spread.{rowBy}
 use Rattle.lowering.proofs.Theory.StoredNumbers.{clamped-mono}
-use Rattle.lowering.proofs.Theory.LoweredTables.{cell-lowered, after-lowering}
+use Rattle.lowering.proofs.Theory.LoweredTables.{cell-lowered, cell-down}
 use Rattle.lowering.proofs.Theory.WalksKept.{Has, Walked, cell-walked, PlanLinks}
 use Rattle.lowering.proofs.Theory.StepsTaken.{Keeps, Reaches, Steps, one, both, each, Among, Rule, Puts, keeps, reaches, reached, rule-keeps, rule-reaches}
 use Rattle.lowering.proofs.Theory.LinkRules.{join-rule, read-rule, lower-steps, upper-rule, case-rule, strict-rule}
@@ -31,10 +29,7 @@ module _ (E : ℕ → ℕ → ℤ → Type 0) (r : Ranges) (h : Coherent r) (n :
         walks = λ t w. w;
         before = λ t u w d a. a;
         puts = λ x y c hx hy k t w. record { low = cell-lowered r h n x y c t hx hy (w .sound); holds = cell-walked E r h n x y c t hx hy k w };
-        down = λ x y c hx hy k t w a.
-            ⊎-elim
-            (λ e. subst (λ (d : Cell). d ≤ᶜ clamped (r .reach) c) (sym (e .1)) (smaller-left (clamped (r .reach) c) (tableOf r n t x y)))
-            (λ e. absurd (e .0 (refl, refl))) (after-lowering r h n x y c t (w .sound) hx hy x y hx hy);
+        down = λ x y c hx hy k t w a. cell-down r h n x y c t hx hy (w .sound);
       }
 
   -- ---- joins
@@ -91,31 +86,26 @@ module _ (E : ℕ → ℕ → ℤ → Type 0) (r : Ranges) (h : Coherent r) (n :
 
 -- ---- sweeps
 
-module _ (p : Plan) (r : Ranges) (h : Coherent r) (link : ℕ → Link) (count : ℕ) (l : PlanLinks p link count) where
-  abbrev pub Strict : List ℤ → Type 0
-  Strict = Walked (Derivable p) r (p .points)
-
-  abbrev pub Weak : List ℤ → Type 0
-  Weak = Walked (Open p) r (p .points)
-
-  pub strict-cells : Puts (Derivable p) r (p .points) Strict Any (lowerCell r (p .points))
+module _ (p : Plan) (r : Ranges) (h : Coherent r) where
+  pub strict-cells : Puts (Derivable p) r (p .points) (Walked (Derivable p) r (p .points)) Any (lowerCell r (p .points))
   strict-cells = cells (Derivable p) r h (p .points)
 
-  pub open-cells : Puts (Open p) r (p .points) Weak Any (lowerCell r (p .points))
+  pub open-cells : Puts (Open p) r (p .points) (Walked (Open p) r (p .points)) Any (lowerCell r (p .points))
   open-cells = cells (Open p) r h (p .points)
 
+module _ (p : Plan) (r : Ranges) (h : Coherent r) (link : ℕ → Link) (count : ℕ) (l : PlanLinks p link count) where
   -- the strict table: joins, Lower, Upper
-  unfoldable pub strict-steps : Steps Strict r (p .points) (sweepStrict r (p .points) link count)
+  unfoldable pub strict-steps : Steps (Walked (Derivable p) r (p .points)) r (p .points) (sweepStrict r (p .points) link count)
   unfolding sweepStrict joinAll joinMiddle lowerAll lowerLink lowerPair upperAll upperPoint upperCell
   strict-steps =
-      both (both (join-steps (Derivable p) r h (p .points)) (lower-steps p r link count l strict-cells))
-      (each (p .points) (λ x hx. each count (λ i hi. one (rule-keeps strict-cells (upper-rule p r link count l x i hx hi)))))
+      both (both (join-steps (Derivable p) r h (p .points)) (lower-steps p r link count l (strict-cells p r h)))
+      (each (p .points) (λ x hx. each count (λ i hi. one (rule-keeps (strict-cells p r h) (upper-rule p r link count l x i hx hi)))))
 
   -- the open one: under the strict cells, under the lower-case edges, joins
-  unfoldable pub open-steps : (strict : List ℤ) → Strict strict → Steps Weak r (p .points) (sweepOpen r (p .points) link count strict)
+  unfoldable pub open-steps : (strict : List ℤ) → Walked (Derivable p) r (p .points) strict → Steps (Walked (Open p) r (p .points)) r (p .points) (sweepOpen r (p .points) link count strict)
   unfolding sweepOpen openAll openRow openCell caseAll caseLink joinAll joinMiddle
   open-steps strict w =
       both
-      (both (each (p .points) (λ x hx. each (p .points) (λ y hy. one (rule-keeps open-cells (strict-rule p r link count l strict w x y hx hy)))))
-      (each count (λ i hi. one (rule-keeps open-cells (case-rule p r link count l i hi)))))
+      (both (each (p .points) (λ x hx. each (p .points) (λ y hy. one (rule-keeps (open-cells p r h) (strict-rule p r link count l strict w x y hx hy)))))
+      (each count (λ i hi. one (rule-keeps (open-cells p r h) (case-rule p r link count l i hi)))))
       (join-steps (Open p) r h (p .points))
