@@ -167,6 +167,7 @@ module _ (r : Ranges) (h : Coherent r) (n : ℕ) where
               rest = λ x z hx xn zn. p .rest x z (omega arith) xn zn;
               along = p .along;
             }
+
         -- the row is joined, and is not that of b
         changes : belowᶜ c (at u m b) ≡ true → Part a b w t (suc m) (rowBy r n b m c u)
         changes e =
@@ -276,8 +277,20 @@ module _ (r : Ranges) (h : Coherent r) (n : ℕ) where
             let least : pos zero ≤ℤ (m .value +ℤ q) = rw (m .is, eq) at round in
             ≤ᶜ-trans (at u x z) (num ((p +ℤ q) +ℤ s′)) (num (v₁ +ℤ v₂)) (under-way x z hx hz k ep eq es′)
             (omega (
-              ints, m .le, e, e′, same, least, plus p q, plus (p +ℤ q) s, plus (p +ℤ q) s′, plus p′ q′, plus (p′ +ℤ q′) s′, plus s p′,
-              plus (m .value) q, plus v₁ v₂,
+              ints,
+              m .le,
+              e,
+              e′,
+              same,
+              least,
+              plus p q,
+              plus (p +ℤ q) s,
+              plus (p +ℤ q) s′,
+              plus p′ q′,
+              plus (p′ +ℤ q′) s′,
+              plus s p′,
+              plus (m .value) q,
+              plus v₁ v₂,
             ))
 
     -- the table after is joined
