@@ -22,13 +22,13 @@ use Rattle.rules.proofs.Cells.{same-number}
 use Rattle.rules.proofs.Walks.{single, Dominated, exactly}
 use Rattle.rules.proofs.Points.{Pointed, Weighted, in-range-pointed, in-range-weighted}
 use Rattle.rules.proofs.CellLimits.{FromCell, table-limit, table-has, cells-pointed}
-use Rattle.cell.specs.Steps.{adding, Stored, clamped}
-use Rattle.cell.proofs.StoredCells.{≤ᶜ-refl, ≤ᶜ-trans}
+use Rattle.cell.specs.Steps.{adding, Stored}
+use Rattle.cell.proofs.StoredCells.{≤ᶜ-refl, ≤ᶜ-trans, clamped-within}
 use Rattle.lowering.specs.Sweep.{lowerCell, limitCell, firstOpen, markAll}
 use Rattle.lowering.proofs.Theory.WalksKept.{Has, Walked}
 use Rattle.lowering.proofs.Theory.StepsTaken.{Taken, Puts, keeps}
 use Rattle.lowering.proofs.Theory.SweepsTaken.{Any, cells}
-use Rattle.lowering.proofs.Theory.FirstTables.{marks-walked, diagonal-steps, diagonal-below, stored-itself}
+use Rattle.lowering.proofs.Theory.FirstTables.{marks-walked, diagonal-steps, diagonal-below}
 use Rattle.lowering.proofs.Theory.SweepsEnd.{Going}
 
 -- "its weights may exceed a file's range": a weight up to the closed range, 63 such weights and the mark go together
@@ -145,10 +145,9 @@ module _ (p : Plan) (g : InRange version1 p) (strict weak : Table) (c : Closed v
     new-below : tableOf adding (p .points) (limitCell adding (p .points) m u) (m .from) (m .to) ≤ᶜ num (m .weight)
     unfolding limitCell
     new-below =
-        ≤ᶜ-trans (tableOf adding (p .points) (limitCell adding (p .points) m u) (m .from) (m .to)) (clamped (adding .reach) (num (m .weight))) (num (m .weight))
-        (storing .down (m .from) (m .to) (num (m .weight)) (i .from) (i .to) limit-has u cells-walked tt)
-        (stored-itself (adding .reach) (in-wide (adding-coherent .holds-weight) (new-limit m refl .0))
-        (omega (ints, new-limit m refl .1, adding-coherent .holds-weight)))
+        rw (clamped-within (adding .reach) (num (m .weight))
+        (in-wide (adding-coherent .holds-weight) (new-limit m refl .0), omega (ints, new-limit m refl .1, adding-coherent .holds-weight)))
+        at (storing .down (m .from) (m .to) (num (m .weight)) (i .from) (i .to) limit-has u cells-walked tt)
 
     limit-below : (l : Limit) → List·Memᴰ l (withCells p strict m .limits)
         → tableOf adding (p .points) (limitCell adding (p .points) m u) (l .from) (l .to) ≤ᶜ num (l .weight)

@@ -10,7 +10,6 @@ use lib.Dec.{T, eqb, eqb-refl}
 use lib.ListN.{length, getD, set, length-set}
 use lib.Seq.{getD-set-same, getD-set-other}
 use lib.IntN.{ℤ, pos, negℤ}
-use lib.Signed.{_≤ℤ_, ≤ℤ-refl}
 use Rattle.whole.proofs.Order.{ints, neg}
 use Rattle.whole.proofs.Place.{inside}
 use Rattle.rules.specs.Plan.{Limit, Link, Plan, Ranges}
@@ -18,18 +17,17 @@ use Rattle.rules.proofs.Coherence.{Coherent}
 use Rattle.rules.specs.Edges as edges
 use Rattle.rules.specs.Edges.{Given}
 use Rattle.rules.specs.Walks.{stay}
-use Rattle.rules.specs.Cells.{Cell, mark, num, _≤ᶜ_, cellOf, tableOf}
+use Rattle.rules.specs.Cells.{mark, num, _≤ᶜ_, Within, cellOf, tableOf}
 use Rattle.rules.proofs.Walks.{single, exactly}
 use Rattle.rules.proofs.Points.{Pointed, Weighted, Ends, given-ends}
 use Rattle.rules.proofs.Expansion.{basic-least, basic-given}
 use Rattle.rules.proofs.Reach.{given-most}
-use Rattle.cell.specs.Steps.{Stored, clamped}
+use Rattle.cell.specs.Steps.{Stored}
 use Rattle.lowering.specs.Sweep.{lowerCell, markAll, diagonalAll, limitCell, limitAll, startAll, linkEdges, linkAll, firstStrict}
-use Rattle.cell.proofs.StoredCells.{≤ᶜ-trans}
-use Rattle.lowering.proofs.Theory.StoredNumbers.{Clamping, above, below, inside as in-reach, clamping}
+use Rattle.cell.proofs.StoredCells.{clamped-within}
 use Rattle.lowering.proofs.Theory.WalksKept.{Has, Walked}
 use Rattle.lowering.proofs.Theory.StepsTaken.{Steps, one, both, each, Among, Rule, Puts, Taken, keeps, reached, rule-keeps, rule-reaches}
-use Rattle.lowering.proofs.Theory.LinkRules.{constant-rule}
+use Rattle.lowering.proofs.Theory.CellRules.{constant-rule}
 use Rattle.lowering.proofs.Theory.SweepsTaken.{Any, cells}
 use Rattle.lowering.proofs.Theory.StillSweep.{AllLinks, each-link}
 
@@ -82,17 +80,6 @@ marks-walked E r n t h =
       has = λ x y hx hy. subst (Has E x y) (sym (is x y hx hy)) tt;
     }
 
--- ---- numbers in reach
-
--- a number in reach is stored as it is
-pub stored-itself : (reach : ℕ) {c : ℤ} → negℤ (pos reach) ≤ℤ c → c ≤ℤ pos reach → clamped reach (num c) ≤ᶜ num c
-stored-itself reach {c} lo hi = by (clamping reach c)
-  where
-    by : {d : Cell} → Clamping reach c d → d ≤ᶜ num c
-    by (above k) = absurd (omega ints)
-    by (below k) = absurd (omega (ints, neg (pos reach)))
-    by (in-reach k l) = ≤ℤ-refl c
-
 -- ---- the diagonal
 
 module _ (E : ℕ → ℕ → ℤ → Type 0) (r : Ranges) (h : Coherent r) (n : ℕ) where
@@ -109,15 +96,14 @@ module _ (E : ℕ → ℕ → ℤ → Type 0) (r : Ranges) (h : Coherent r) (n :
 
   -- a cell brought down to a number in reach is at most it
   pub number-below : {x y : ℕ} {c : ℤ} {f : List ℤ → List ℤ} → Rule E r n x y (λ t. num c) → (a : Steps (Walked E r n) r n f)
-      → Among (Walked E r n) Any r n x y (λ t. num c) a → negℤ (pos (r .reach)) ≤ℤ c → c ≤ℤ pos (r .reach) → (t : List ℤ) → Walked E r n t
-      → tableOf r n (f t) x y ≤ᶜ num c
-  number-below {x} {y} {c} {f} l a q lo hi t w =
-      ≤ᶜ-trans (tableOf r n (f t) x y) (clamped (r .reach) (num c)) (num c)
-      (reached (cells E r h n) l a q t w tt) (stored-itself (r .reach) lo hi)
+      → Among (Walked E r n) Any r n x y (λ t. num c) a → Within (r .reach) (num c) → (t : List ℤ) → Walked E r n t → tableOf r n (f t) x y ≤ᶜ num c
+  number-below {c} l a q within t w = rw (clamped-within (r .reach) (num c) within) at (reached (cells E r h n) l a q t w tt)
+
+  pub zero-within : Within (r .reach) (num (pos zero))
+  zero-within = (omega (ints, neg (pos (r .reach))), omega ints)
 
   pub diagonal-below : (t : List ℤ) → Walked E r n t → (x : ℕ) → x < n → tableOf r n (diagonalAll r n t) x x ≤ᶜ num (pos zero)
-  diagonal-below t w x hx =
-      number-below (diagonal-rule x hx) diagonal-steps (diagonal-among x hx) (omega (ints, neg (pos (r .reach)))) (omega ints) t w
+  diagonal-below t w x hx = number-below (diagonal-rule x hx) diagonal-steps (diagonal-among x hx) zero-within t w
 
 -- ---- every given edge
 
@@ -187,13 +173,14 @@ module _ (p : Plan) (r : Ranges) (h : Coherent r) (g : Pointed p) (b : Weighted 
     pub first-below : (x y : ℕ) (v : ℤ) → Given p x y v → tableOf r (p .points) (firstStrict r (p .points) limit limits link links t) x y ≤ᶜ num v
     unfolding firstStrict
     first-below x y v e =
-        number-below E r h (p .points) (given-rule e) given-steps (given-among e)
-        (omega (ints, basic-least b (basic-given e), h .holds-weight, neg (pos (r .weight)), neg (pos (r .reach))))
-        (omega (ints, given-most b x y v e, h .holds-weight)) (markAll r (p .points * p .points) t) marked
+        number-below E r h (p .points) (given-rule e) given-steps (given-among e) (
+          omega (ints, basic-least b (basic-given e), h .holds-weight, neg (pos (r .weight)), neg (pos (r .reach))),
+          omega (ints, given-most b x y v e, h .holds-weight),
+        ) (markAll r (p .points * p .points) t) marked
 
     -- and at most 0 on the diagonal
     pub first-diagonal : (x : ℕ) → x < p .points → tableOf r (p .points) (firstStrict r (p .points) limit limits link links t) x x ≤ᶜ num (pos zero)
     unfolding firstStrict given-steps
     first-diagonal x hx =
         number-below E r h (p .points) (diagonal-rule E r h (p .points) x hx) given-steps (inl (inl (inl (diagonal-among E r h (p .points) x hx))))
-        (omega (ints, neg (pos (r .reach)))) (omega ints) (markAll r (p .points * p .points) t) marked
+        (zero-within E r h (p .points)) (markAll r (p .points * p .points) t) marked

@@ -314,7 +314,8 @@ module _ (p : Plan) (r : Ranges) (h : Coherent r) (g : Pointed p) (b : Weighted 
         by before (inr i) =
             let d : Cell = cell k x k +ᶜ cell k k z in
             let both : AtMost d (i .first .total +ℤ i .last .total) =
-            sum (before x k (i .first .total) (i .first-length) hx hk (i .first .path)) (before k z (i .last .total) (i .last-length) hk hz (i .last .path)) in
+            sum (before x k (i .first .total) (i .first-length) hx hk (i .first .path))
+            (before k z (i .last .total) (i .last-length) hk hz (i .last .path)) in
             let exactly : cell (suc k) x z ≤ᶜ d =
             exact (r .reach) (cell (suc k) x z) d (fair-after (suc k) hk .within x z hx hz) (λ c e. brief-most (suc k) hk hx hz (brief p g hx q))
             (next-joined x k z hx hk hz) in

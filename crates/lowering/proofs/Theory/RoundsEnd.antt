@@ -27,7 +27,7 @@ use Rattle.lowering.proofs.Theory.WalksKept.{Has, Walked, PlanLinks}
 use Rattle.lowering.proofs.Theory.StoredNumbers.{exact}
 use Rattle.lowering.proofs.Theory.StillSweep.{given-stays, AllLinks, each-link, two-links}
 use Rattle.lowering.proofs.Theory.StepsTaken.{Taken, Steps, one, both, each, Among, Rule, Puts, keeps, reached, rule-keeps, rule-reaches, still-obeys}
-use Rattle.lowering.proofs.Theory.LinkRules.{lower-rule, lower-steps, lower-among, upper-rule, case-rule, strict-rule}
+use Rattle.lowering.proofs.Theory.CellRules.{lower-rule, lower-steps, lower-among, upper-rule, case-rule, strict-rule}
 use Rattle.lowering.proofs.Theory.SpreadSteps.{edge-keeps}
 use Rattle.lowering.proofs.Theory.SpreadKeepsJoined.{Shut, Full, edge-shut, edge-under}
 
@@ -146,6 +146,9 @@ module _ (p : Plan) (r : Ranges) (h : Coherent r) (g : Pointed p) (link : ℕ �
   abbrev at : List ℤ → ℕ → ℕ → Cell
   at t x y = tableOf r (p .points) t x y
 
+  abbrev steps : Steps (Carried (Derivable p) p r) r (p .points) (strictRound r (p .points) link count)
+  steps = strict-steps p r h link count (l .links)
+
   -- a round of both
   pub rounds-on : Rounds p r link count (strictRound r (p .points) link count strict)
       (openRound r (p .points) (strictRound r (p .points) link count strict) link count weak)
@@ -153,10 +156,10 @@ module _ (p : Plan) (r : Ranges) (h : Coherent r) (g : Pointed p) (link : ℕ �
   rounds-on =
       let u : List ℤ = strictRound r (p .points) link count strict in
       let v : List ℤ = openRound r (p .points) u link count weak in
-      let tu : Taken (Carried (Derivable p) p r) r (p .points) strict u = keeps (strict-edges p r h) (strict-steps p r h link count (l .links)) strict (s .strict-carried) in
+      let tu : Taken (Carried (Derivable p) p r) r (p .points) strict u = keeps (strict-edges p r h) steps strict (s .strict-carried) in
       let w : Walked (Derivable p) r (p .points) u = tu .holds .walks in
-      let steps : Steps (Carried (Open p) p r) r (p .points) (openRound r (p .points) u link count) = open-steps p r h link count (l .links) u w in
-      let tv : Taken (Carried (Open p) p r) r (p .points) weak v = keeps (open-edges p r h) steps weak (s .open-carried) in
+      let follow : Steps (Carried (Open p) p r) r (p .points) (openRound r (p .points) u link count) = open-steps p r h link count (l .links) u w in
+      let tv : Taken (Carried (Open p) p r) r (p .points) weak v = keeps (open-edges p r h) follow weak (s .open-carried) in
       record {
         strict-carried = tu .holds;
         open-carried = tv .holds;
@@ -167,10 +170,10 @@ module _ (p : Plan) (r : Ranges) (h : Coherent r) (g : Pointed p) (link : ℕ �
             (clamped (r .reach) (num (pos (link i .short)))) (s .open-cases (fair-before (s .open-carried .walks .sound) (tv .low) f) i hi);
         open-lower = λ f i j hi hj.
             let o = lower-cell p r h link count (l .links) u w i j hi hj in
-            reached (open-edges p r h) o steps (i, hi, inl (j, hj, rule-reaches (open-edges p r h) o)) weak (s .open-carried) f;
+            reached (open-edges p r h) o follow (i, hi, inl (j, hj, rule-reaches (open-edges p r h) o)) weak (s .open-carried) f;
         open-upper = λ f x i hx hi.
             let o = upper-cell p r h link count (l .links) u w x i hx hi in
-            reached (open-edges p r h) o steps (i, hi, inr (x, hx, rule-reaches (open-edges p r h) o)) weak (s .open-carried) f;
+            reached (open-edges p r h) o follow (i, hi, inr (x, hx, rule-reaches (open-edges p r h) o)) weak (s .open-carried) f;
       }
 
   module _ (same : strictRound r (p .points) link count strict ≡ strict) (fs : Fair r (p .points) strict) (fw : Fair r (p .points) weak) where
@@ -182,9 +185,9 @@ module _ (p : Plan) (r : Ranges) (h : Coherent r) (g : Pointed p) (link : ℕ �
 
     -- each rule of a round is obeyed
     obeys : {x y : ℕ} {rule : List ℤ → Cell} → Rule (Derivable p) r (p .points) x y rule
-        → Among (Carried (Derivable p) p r) (Fair r (p .points)) r (p .points) x y rule (strict-steps p r h link count (l .links)) → at strict x y ≤ᶜ rule strict
+        → Among (Carried (Derivable p) p r) (Fair r (p .points)) r (p .points) x y rule steps → at strict x y ≤ᶜ rule strict
     obeys {x} {y} o q =
-        still-obeys (strict-edges p r h) o (strict-steps p r h link count (l .links)) q strict (s .strict-carried) same fs (fs .within x y (o .from-below) (o .to-below))
+        still-obeys (strict-edges p r h) o steps q strict (s .strict-carried) same fs (fs .within x y (o .from-below) (o .to-below))
         (λ v k. s .strict-carried .full x y v (o .from-below) (o .to-below) (as-open k))
 
     lower-strict : (k j : Link) → List·Memᴰ k (p .links) → List·Memᴰ j (p .links) → j .con ≢ k .con
@@ -192,7 +195,8 @@ module _ (p : Plan) (r : Ranges) (h : Coherent r) (g : Pointed p) (link : ℕ �
     unfolding strict-steps
     lower-strict =
         two-links l (λ k j. j .con ≢ k .con → at strict (k .act) (j .con) ≤ᶜ lowered k j (at strict (k .con) (j .con)))
-        (λ i j hi hj ne. obeys (lower-rule p r link count (l .links) i j hi hj ne) (inl (lower-among p r link count (l .links) (strict-edges p r h) i j hi hj ne)))
+        (λ i j hi hj ne.
+        obeys (lower-rule p r link count (l .links) i j hi hj ne) (inl (lower-among p r link count (l .links) (strict-edges p r h) i j hi hj ne)))
 
     upper-strict : (k : Link) → List·Memᴰ k (p .links) → (x : ℕ) → x < p .points → at strict x (k .act) ≤ᶜ uppered k (at strict x (k .con))
     unfolding strict-steps

@@ -319,7 +319,8 @@ module _ (r : Ranges) (h : Coherent r) (n : ℕ) where
   not-fair a mark t ha s e f = true≢false (sym e)
   not-fair a (num c) t ha s e f =
       by (clamping (r .reach) c)
-      (≤ᶜ-trans (num (pos zero)) (at (lowerCell r n a a (num c) t) a a) (clamped (r .reach) (num c)) (f .diagonal a ha) (cell-down r h n a a (num c) t ha ha s))
+      (≤ᶜ-trans (num (pos zero)) (at (lowerCell r n a a (num c) t) a a) (clamped (r .reach) (num c)) (f .diagonal a ha)
+      (cell-down r h n a a (num c) t ha ha s))
     where
       below-zero : c <ℤ pos zero
       below-zero = ltZ-yes (rw e tt)

@@ -14,7 +14,7 @@ use Rattle.lowering.proofs.Theory.LoweredTables.{Lowered, Lowers, lower
 use Rattle.lowering.proofs.Theory.SweepSteps.{LinkPoints, cell-lowers}
 use Rattle.lowering.proofs.Theory.WalksKept.{Has, has-sum, has-stored, Walked}
 use Rattle.lowering.proofs.Theory.StepsTaken.{Taken, Keeps, one, each, keeps, taken-none, rule-keeps}
-use Rattle.lowering.proofs.Theory.LinkRules.{read-rule}
+use Rattle.lowering.proofs.Theory.CellRules.{read-rule}
 use Rattle.lowering.proofs.Theory.SweepsTaken.{cells, row-by-keeps}
 
 -- ---- lowering

@@ -1,5 +1,6 @@
--- Steps taken one after another, each of which brings a cell of a table down to what a rule yields. What each of them keeps of a table, all of them keep; and what
--- one of them brought a cell down to, it stays at most. So a new step costs its rule and its place among the steps. Over any ranges. Assumes nothing.
+-- Steps taken one after another, each of which brings a cell of a table down to what a rule yields. What each of them keeps of a table, all of
+-- them keep; and what one of them brought a cell down to, it stays at most. So a new step costs its rule and its place among the steps.
+-- Over any ranges. Assumes nothing.
 use mathlib.Core.Path.{_≡_, refl, sym, subst}
 use mathlib.Core.Bool.{Bool, true, false, cond, true≢false}
 use mathlib.Core.Logic.{_⊎_, inl, inr, ⊎-elim}
@@ -55,7 +56,7 @@ pub record Rule (E : ℕ → ℕ → ℤ → Type 0) (r : Ranges) (n x y : ℕ) 
   pub has : (t : List ℤ) → Walked E r n t → Has E x y (rule t)
   pub falls : (t u : List ℤ) → Lowered r n t u → rule u ≤ᶜ rule t
 
--- a way to bring a cell down, with what it keeps of a table, and with what must hold of the table after for the cell to be down: which then held before
+-- a way to bring a cell down, with what it keeps of a table, P, and what must hold of the table after for the cell to be down, Q, which then held before
 pub record Puts (E : ℕ → ℕ → ℤ → Type 0) (r : Ranges) (n : ℕ) (P Q : List ℤ → Type 0) (put : ℕ → ℕ → Cell → List ℤ → List ℤ) : Type 0 where
   pub walks : (t : List ℤ) → P t → Walked E r n t
   pub before : (t u : List ℤ) → P t → Lowered r n t u → Q u → Q t

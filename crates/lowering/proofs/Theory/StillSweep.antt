@@ -30,7 +30,7 @@ use Rattle.lowering.proofs.Theory.StoredNumbers.{stored-at-most}
 use Rattle.lowering.proofs.Theory.LoweredTables.{Lowered, lowered-below}
 use Rattle.lowering.proofs.Theory.WalksKept.{Has, Walked, PlanLinks}
 use Rattle.lowering.proofs.Theory.StepsTaken.{Steps, Among, Rule, rule-reaches, still-down, still-obeys}
-use Rattle.lowering.proofs.Theory.LinkRules.{join-rule, lower-rule, lower-among, upper-rule, case-rule, strict-rule}
+use Rattle.lowering.proofs.Theory.CellRules.{join-rule, lower-rule, lower-among, upper-rule, case-rule, strict-rule}
 use Rattle.lowering.proofs.Theory.SweepsTaken.{Any, join-among, strict-cells, open-cells, strict-steps, open-steps}
 
 -- ---- a sweep that changed nothing
@@ -129,8 +129,7 @@ module _ (p : Plan) (r : Ranges) (h : Coherent r) (g : Pointed p) (b : Weighted 
 
     open-among : (x y : ℕ) → x < p .points → y < p .points → Among (Walked (Open p) r (p .points)) Any r (p .points) x y (λ t. at strict x y) weak-steps
     unfolding open-steps
-    open-among x y hx hy =
-        inl (inl (x, hx, (y, hy, rule-reaches (open-cells p r h) (under-strict x y hx hy))))
+    open-among x y hx hy = inl (inl (x, hx, (y, hy, rule-reaches (open-cells p r h) (under-strict x y hx hy))))
 
     open-connected : {x z : ℕ} {t : ℤ} → x < p .points → z < p .points → Walk (Open p) x z t → AtMost (at weak x z) (pos (r .reach))
     open-connected {x} {z} hx hz k =
@@ -167,7 +166,8 @@ module _ (p : Plan) (r : Ranges) (h : Coherent r) (g : Pointed p) (b : Weighted 
           lower =
               two-links l (λ k j. j .con ≢ k .con → at strict (k .act) (j .con) ≤ᶜ lowered k j (at strict (k .con) (j .con)))
               (λ i j hi hj ne.
-              strict-obeys (lower-rule p r link count (l .links) i j hi hj ne) (inl (inr (lower-among p r link count (l .links) (strict-cells p r h) i j hi hj ne))));
+              strict-obeys (lower-rule p r link count (l .links) i j hi hj ne)
+              (inl (inr (lower-among p r link count (l .links) (strict-cells p r h) i j hi hj ne))));
           upper =
               each-link l (λ k. (x : ℕ) → x < p .points → at strict x (k .act) ≤ᶜ uppered k (at strict x (k .con)))
               (λ i hi x hx.

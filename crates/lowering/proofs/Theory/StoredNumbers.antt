@@ -1,4 +1,5 @@
--- What is stored of a number, by cases, what the smaller of two cells keeps, and when a cell at most what was stored is at most what was meant. Assumes nothing.
+-- What is stored of a number, by cases, what the smaller of two cells keeps, and when a cell at most what was stored is at most what was meant.
+-- Assumes nothing.
 use mathlib.Core.Path.{_≡_, refl}
 use mathlib.Core.Bool.{Bool, true, false, cond}
 use Prim.Native.Nat.{ℕ}

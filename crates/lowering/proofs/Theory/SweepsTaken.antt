@@ -1,5 +1,5 @@
--- What sweeps keep of a table whose cells have their walks, and what they bring its cells down to: joins, Lower and Upper for the strict table, the strict cells,
--- the lower-case edges and joins for the open one. Over any coherent ranges. Assumes nothing.
+-- Sweeps as steps, each of which lowers one cell of a table whose cells have their walks: joins, Lower and Upper for the strict table, the strict
+-- cells, the lower-case edges and joins for the open one. Over any coherent ranges. Assumes nothing.
 use mathlib.Core.List.{List}
 use Prim.Native.Nat.{ℕ, _<_}
 use lib.IntN.{ℤ}
@@ -15,7 +15,7 @@ use Rattle.lowering.proofs.Theory.StoredNumbers.{clamped-mono}
 use Rattle.lowering.proofs.Theory.LoweredTables.{cell-lowered, cell-down}
 use Rattle.lowering.proofs.Theory.WalksKept.{Has, Walked, cell-walked, PlanLinks}
 use Rattle.lowering.proofs.Theory.StepsTaken.{Keeps, Reaches, Steps, one, both, each, Among, Rule, Puts, keeps, reaches, reached, rule-keeps, rule-reaches}
-use Rattle.lowering.proofs.Theory.LinkRules.{join-rule, read-rule, lower-steps, upper-rule, case-rule, strict-rule}
+use Rattle.lowering.proofs.Theory.CellRules.{join-rule, read-rule, lower-steps, upper-rule, case-rule, strict-rule}
 
 -- what a sweep brings a cell down to, it does whatever the table after is
 abbrev pub Any : List ℤ → Type 0
@@ -35,7 +35,8 @@ module _ (E : ℕ → ℕ → ℤ → Type 0) (r : Ranges) (h : Coherent r) (n :
   -- ---- joins
 
   -- a row by the cells from y, with what leads to y as it was read
-  abbrev row-steps : (y x : ℕ) (a : Cell) → y < n → x < n → Has E x y a → Steps (Walked E r n) r n (iter (λ z t. lowerCell r n x z (a +ᶜ tableOf r n t y z) t) n)
+  abbrev row-steps : (y x : ℕ) (a : Cell) → y < n → x < n → Has E x y a
+      → Steps (Walked E r n) r n (iter (λ z t. lowerCell r n x z (a +ᶜ tableOf r n t y z) t) n)
   row-steps y x a hy hx k = each n (λ z hz. one (rule-keeps cells (read-rule E r n x y z a hx hy hz k)))
 
   pub row-by-keeps : (y x : ℕ) (a : Cell) → y < n → x < n → Has E x y a → Keeps (Walked E r n) r n (rowBy r n y x a)
@@ -102,7 +103,8 @@ module _ (p : Plan) (r : Ranges) (h : Coherent r) (link : ℕ → Link) (count :
       (each (p .points) (λ x hx. each count (λ i hi. one (rule-keeps (strict-cells p r h) (upper-rule p r link count l x i hx hi)))))
 
   -- the open one: under the strict cells, under the lower-case edges, joins
-  unfoldable pub open-steps : (strict : List ℤ) → Walked (Derivable p) r (p .points) strict → Steps (Walked (Open p) r (p .points)) r (p .points) (sweepOpen r (p .points) link count strict)
+  unfoldable pub open-steps : (strict : List ℤ) → Walked (Derivable p) r (p .points) strict
+      → Steps (Walked (Open p) r (p .points)) r (p .points) (sweepOpen r (p .points) link count strict)
   unfolding sweepOpen openAll openRow openCell caseAll caseLink joinAll joinMiddle
   open-steps strict w =
       both

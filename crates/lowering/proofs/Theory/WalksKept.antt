@@ -55,11 +55,14 @@ pub has-uppered : (p : Plan) (k : Link) (x : ℕ) (c : Cell) → List·Memᴰ k 
 has-uppered p k x mark hk h = tt
 has-uppered p k x (num v) hk h = upper-walk p hk refl h
 
+-- walks of some edges are walks of others that hold them
+pub has-in : {E F : ℕ → ℕ → ℤ → Type 0} → ((x y : ℕ) (w : ℤ) → E x y w → F x y w) → (x y : ℕ) (c : Cell) → Has E x y c → Has F x y c
+has-in f x y mark h = tt
+has-in f x y (num c) h = record { total = h .total; walk = replaced (λ x y w e. single (f x y w e)) (h .walk); le = h .le }
+
 -- a walk of derivable edges is an open one
 pub has-open : (p : Plan) (x y : ℕ) (c : Cell) → Has (Derivable p) x y c → Has (Open p) x y c
-has-open p x y mark h = tt
-has-open p x y (num c) h =
-    record { total = h .total; walk = replaced (λ x y w d. single (edges.ordinary d)) (h .walk); le = h .le }
+has-open p = has-in (λ x y w e. edges.ordinary e)
 
 -- ---- tables
 

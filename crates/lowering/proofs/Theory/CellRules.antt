@@ -1,4 +1,5 @@
--- The rules by which rounds and sweeps bring a cell down, each with its walk: Lower, Upper, a lower-case edge, and the strict cell of an open one. Assumes nothing.
+-- The rules by which rounds and sweeps bring a cell down, each with its walk: a constant cell, Join, Lower, Upper, a lower-case edge, and the strict
+-- cell of an open one. Assumes nothing.
 use mathlib.Core.Path.{_≡_, refl}
 use mathlib.Core.Bool.{Bool, true, false, cond}
 use mathlib.Core.Logic.{_≢_}
