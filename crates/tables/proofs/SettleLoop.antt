@@ -24,10 +24,10 @@ use Rattle.lowering.proofs.Theory.HeightsFall.{lowered-heights, same-heights}
 use Rattle.lowering.proofs.Laws.LinksAsRead.{link-points}
 use Rattle.lowering.proofs.Laws.ReadyFile.{ready-points, ready-few, ready-pointed, ready-weighted, ready-limits, ready-links}
 use Rattle.lowering.proofs.Theory.WalksKept.{has-open}
-use Rattle.lowering.proofs.Theory.SpreadSteps.{strict-round-lowered, open-round-lowered, case-edges-lowered}
+use Rattle.lowering.proofs.Theory.SpreadSteps.{strict-round-lowered, open-round-lowered}
 use Rattle.lowering.proofs.Theory.SweepsEnd.{lowered-kept, kept-trans, unfair-walk}
 use Rattle.lowering.proofs.Theory.RoundsEnd.{Carried, Rounds, rounds-on, rounds-tables}
-use Rattle.lowering.proofs.Theory.RoundsBegin.{copied-kept, copied-sound, joined-kept, joined-given, joined-carried, rounds-first}
+use Rattle.lowering.proofs.Theory.RoundsBegin.{copied-kept, cases-taken, joined-kept, joined-given, joined-carried, rounds-first}
 
 -- two tables that stand as before a round, past the room as two lists were
 pub record Standing (s : List ℕ) (m k : ℕ) (strict₀ weak₀ strict weak : List ℤ) : Type 0 where
@@ -96,22 +96,23 @@ module _ {s : List ℕ} {n m k : ℕ} (r : Ready s n m k) where
         let c′ : Copied (p .points * p .points) u b v = subst (λ (i : ℕ). Copied (i * i) u b v) (sym same-points) c in
         let hb′ : p .points * p .points ≤ length b = subst (λ (i : ℕ). i * i ≤ length b) (sym same-points) hb in
         let is : caseEdges version1 (p .points) (linkAt s m) k v ≡ w = ap (λ (i : ℕ). caseEdges version1 i (linkAt s m) k v) same-points ∙ sym ew in
-        let low : Lowered version1 (p .points) v (caseEdges version1 (p .points) (linkAt s m) k v) =
-        case-edges-lowered version1 version1-coherent (p .points) (linkAt s m) k (ready-links s n m k r .links .points) v
-        (copied-sound version1 (p .points) c′ hb′ (carried .walks .sound)) in
+        let given : (x y : ℕ) (w : ℤ) → edges.Given p x y w → tableOf version1 (p .points) u x y ≤ᶜ num w = λ x y w e.
+        subst (λ (t : List ℤ). tableOf version1 (p .points) t x y ≤ᶜ num w) joined-is
+        (joined-given p version1 version1-coherent (ready-pointed s n m k r) (ready-weighted s n m k r) few-points (limitAt s) m
+        (ready-limits s n m k r) (linkAt s m) k (ready-links s n m k r) a room x y w e) in
         record {
           rounds =
               subst (Rounds p version1 (linkAt s m) k u) is
-              (rounds-first p version1 version1-coherent (ready-pointed s n m k r) (linkAt s m) k (ready-links s n m k r) carried
-              (λ x y w e.
-              subst (λ (t : List ℤ). tableOf version1 (p .points) t x y ≤ᶜ num w) joined-is
-              (joined-given p version1 version1-coherent (ready-pointed s n m k r) (ready-weighted s n m k r) few-points (limitAt s) m
-              (ready-limits s n m k r) (linkAt s m) k (ready-links s n m k r) a room x y w e)) c′ hb′);
+              (rounds-first p version1 version1-coherent (ready-pointed s n m k r) (linkAt s m) k (ready-links s n m k r) carried given c′ hb′);
           strict-kept =
               subst (Kept (cellsOf p) a) joined-is
               (joined-kept p version1 version1-coherent (ready-pointed s n m k r) (ready-weighted s n m k r) few-points (limitAt s) m
               (ready-limits s n m k r) (linkAt s m) k (ready-links s n m k r) a room);
-          open-kept = subst (Kept (cellsOf p) b) is (kept-trans (copied-kept c′) (lowered-kept low));
+          open-kept =
+              subst (Kept (cellsOf p) b) is
+              (kept-trans (copied-kept c′)
+              (lowered-kept
+              (cases-taken p version1 version1-coherent (ready-pointed s n m k r) (linkAt s m) k (ready-links s n m k r) carried given c′ hb′ .low)));
         }
 
   -- ---- one round

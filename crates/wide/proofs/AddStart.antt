@@ -23,11 +23,12 @@ use Rattle.rules.proofs.Walks.{single, Dominated, exactly}
 use Rattle.rules.proofs.Points.{Pointed, Weighted, in-range-pointed, in-range-weighted}
 use Rattle.rules.proofs.CellLimits.{FromCell, table-limit, table-has, cells-pointed}
 use Rattle.cell.specs.Steps.{adding, Stored}
-use Rattle.cell.proofs.StoredCells.{≤ᶜ-refl, ≤ᶜ-trans}
-use Rattle.lowering.specs.Sweep.{limitCell, firstOpen, markAll}
-use Rattle.lowering.proofs.Theory.LoweredTables.{Lowered, cell-lowered}
-use Rattle.lowering.proofs.Theory.WalksKept.{Has, Walked, cell-walked}
-use Rattle.lowering.proofs.Theory.FirstTables.{marks-walked, diagonal-walked, diagonal-below, cell-below}
+use Rattle.cell.proofs.StoredCells.{≤ᶜ-refl, ≤ᶜ-trans, clamped-within}
+use Rattle.lowering.specs.Sweep.{lowerCell, limitCell, firstOpen, markAll}
+use Rattle.lowering.proofs.Theory.WalksKept.{Has, Walked}
+use Rattle.lowering.proofs.Theory.StepsTaken.{Taken, Puts, keeps}
+use Rattle.lowering.proofs.Theory.SweepsTaken.{Any, cells}
+use Rattle.lowering.proofs.Theory.FirstTables.{marks-walked, diagonal-steps, diagonal-below}
 use Rattle.lowering.proofs.Theory.SweepsEnd.{Going}
 
 -- "its weights may exceed a file's range": a weight up to the closed range, 63 such weights and the mark go together
@@ -120,21 +121,21 @@ module _ (p : Plan) (g : InRange version1 p) (strict weak : Table) (c : Closed v
         }
 
     -- and with the new limit
-    pub start-walked : Walked (Derivable (withCells p strict m)) adding (p .points) (limitCell adding (p .points) m u)
-    unfolding limitCell
-    start-walked =
-        cell-walked (Derivable (withCells p strict m)) adding adding-coherent (p .points) (m .from) (m .to) (num (m .weight)) u (i .from) (i .to)
-        (exactly (single (edges.given (edges.limit (List·Memᴰ·head refl))))) cells-walked
+    limit-has : Has (Derivable (withCells p strict m)) (m .from) (m .to) (num (m .weight))
+    limit-has = exactly (single (edges.given (edges.limit (List·Memᴰ·head refl))))
 
-    pub start-lowered : Lowered adding (p .points) u (limitCell adding (p .points) m u)
+    storing : Puts (Derivable (withCells p strict m)) adding (p .points) (Walked (Derivable (withCells p strict m)) adding (p .points)) Any
+        (lowerCell adding (p .points))
+    storing = cells (Derivable (withCells p strict m)) adding adding-coherent (p .points)
+
+    start-taken : Taken (Walked (Derivable (withCells p strict m)) adding (p .points)) adding (p .points) u (limitCell adding (p .points) m u)
     unfolding limitCell
-    start-lowered =
-        cell-lowered adding adding-coherent (p .points) (m .from) (m .to) (num (m .weight)) u (i .from) (i .to) (cells-walked .sound)
+    start-taken = storing .puts (m .from) (m .to) (num (m .weight)) (i .from) (i .to) limit-has u cells-walked
 
     -- a cell after the limit is at most the strict one
     under-cell : (x y : ℕ) → x < p .points → y < p .points → tableOf adding (p .points) (limitCell adding (p .points) m u) x y ≤ᶜ strict x y
     under-cell x y hx hy =
-        subst (λ (d : Cell). tableOf adding (p .points) (limitCell adding (p .points) m u) x y ≤ᶜ d) (same x y hx hy) (start-lowered .down x y hx hy)
+        subst (λ (d : Cell). tableOf adding (p .points) (limitCell adding (p .points) m u) x y ≤ᶜ d) (same x y hx hy) (start-taken .low .down x y hx hy)
 
     under-number : (x y : ℕ) (w : ℤ) → x < p .points → y < p .points → strict x y ≤ᶜ num w
         → tableOf adding (p .points) (limitCell adding (p .points) m u) x y ≤ᶜ num w
@@ -144,8 +145,9 @@ module _ (p : Plan) (g : InRange version1 p) (strict weak : Table) (c : Closed v
     new-below : tableOf adding (p .points) (limitCell adding (p .points) m u) (m .from) (m .to) ≤ᶜ num (m .weight)
     unfolding limitCell
     new-below =
-        cell-below adding adding-coherent (p .points) (m .from) (m .to) (m .weight) u (i .from) (i .to) (cells-walked .sound)
-        (in-wide (adding-coherent .holds-weight) (new-limit m refl .0)) (omega (ints, new-limit m refl .1, adding-coherent .holds-weight))
+        rw (clamped-within (adding .reach) (num (m .weight))
+        (in-wide (adding-coherent .holds-weight) (new-limit m refl .0), omega (ints, new-limit m refl .1, adding-coherent .holds-weight)))
+        at (storing .down (m .from) (m .to) (num (m .weight)) (i .from) (i .to) limit-has u cells-walked tt)
 
     limit-below : (l : Limit) → List·Memᴰ l (withCells p strict m .limits)
         → tableOf adding (p .points) (limitCell adding (p .points) m u) (l .from) (l .to) ≤ᶜ num (l .weight)
@@ -178,15 +180,14 @@ module _ (p : Plan) (g : InRange version1 p) (strict weak : Table) (c : Closed v
         let marked : Walked (Open (withCells p strict m)) adding (p .points) (markAll adding (p .points * p .points) v) =
         marks-walked (Open (withCells p strict m)) adding (p .points) v vr in
         record {
-          strict-walks = start-walked;
+          strict-walks = start-taken .holds;
           open-walks =
-              diagonal-walked (withCells p strict m) adding adding-coherent added-pointed added-weighted (Open (withCells p strict m))
-              (markAll adding (p .points * p .points) v) marked;
+              keeps (cells (Open (withCells p strict m)) adding adding-coherent (p .points))
+              (diagonal-steps (Open (withCells p strict m)) adding adding-coherent (p .points)) (markAll adding (p .points * p .points) v) marked .holds;
           given-below = start-below;
           strict-diagonal = λ x hx.
               under-number x x (pos zero) hx hx
               (subst (λ (d : Cell). d ≤ᶜ num (pos zero)) (sym (c .strict-diagonal x hx)) (≤ℤ-refl (pos zero)));
           open-diagonal =
-              diagonal-below (withCells p strict m) adding adding-coherent added-pointed added-weighted
-              (markAll adding (p .points * p .points) v) (marked .sound);
+              diagonal-below (Open (withCells p strict m)) adding adding-coherent (p .points) (markAll adding (p .points * p .points) v) marked;
         }

@@ -1,7 +1,7 @@
 -- The first tables: they have their walks, hold every given edge and 0 at most on the diagonal, and leave what lies past the room. Assumes nothing.
 use mathlib.Core.Path.{_≡_, refl, sym, ap, subst, _∙_}
 use mathlib.Core.Bool.{Bool, true, false, cond}
-use mathlib.Core.Logic.{⊎-elim}
+use mathlib.Core.Logic.{inl, inr, ⊎-elim}
 use mathlib.Core.List.{List, List·Memᴰ}
 use Prim.Native.Nat.{ℕ, zero, suc, _+_, _*_, _≤_, _<_}
 use native.Mathlib.Nat.{eq-or-lt-of-le, le-of-suc-le-suc, not-suc-le-zero}
@@ -10,7 +10,6 @@ use lib.Dec.{T, eqb, eqb-refl}
 use lib.ListN.{length, getD, set, length-set}
 use lib.Seq.{getD-set-same, getD-set-other}
 use lib.IntN.{ℤ, pos, negℤ}
-use lib.Signed.{_≤ℤ_, ≤ℤ-refl}
 use Rattle.whole.proofs.Order.{ints, neg}
 use Rattle.whole.proofs.Place.{inside}
 use Rattle.rules.specs.Plan.{Limit, Link, Plan, Ranges}
@@ -18,20 +17,19 @@ use Rattle.rules.proofs.Coherence.{Coherent}
 use Rattle.rules.specs.Edges as edges
 use Rattle.rules.specs.Edges.{Given}
 use Rattle.rules.specs.Walks.{stay}
-use Rattle.rules.specs.Cells.{Cell, mark, num, _≤ᶜ_, cellOf, tableOf}
+use Rattle.rules.specs.Cells.{mark, num, _≤ᶜ_, Within, cellOf, tableOf}
 use Rattle.rules.proofs.Walks.{single, exactly}
-use Rattle.rules.proofs.Points.{Pointed, Weighted}
+use Rattle.rules.proofs.Points.{Pointed, Weighted, Ends, given-ends}
 use Rattle.rules.proofs.Expansion.{basic-least, basic-given}
 use Rattle.rules.proofs.Reach.{given-most}
-use Rattle.cell.specs.Steps.{smallerᶜ, Stored, clamped}
-use Rattle.lowering.specs.Sweep.{iter, lowerCell, markAll, diagonalAll, limitCell, limitAll, startAll, linkEdges, linkAll}
-use Rattle.cell.proofs.StoredCells.{≤ᶜ-trans, smaller-left}
-use Rattle.lowering.proofs.Theory.StoredNumbers.{Clamping, above, below, inside as in-reach, clamping}
-use Rattle.lowering.specs.Table.{Sound}
-use Rattle.lowering.proofs.Theory.LoweredTables.{Lowered, Lowers, cell-lowered, after-lowering, iter-lowered, iter-keeps}
-use Rattle.lowering.proofs.Theory.SweepSteps.{diagonal-lowers, start-lowers, limit-lowers, edges-lowers}
-use Rattle.lowering.proofs.Theory.WalksKept.{Has, Walked, cell-walked}
-use Rattle.lowering.proofs.Theory.StillSweep.{AllLinks}
+use Rattle.cell.specs.Steps.{Stored}
+use Rattle.lowering.specs.Sweep.{lowerCell, markAll, diagonalAll, limitCell, limitAll, startAll, linkEdges, linkAll, firstStrict}
+use Rattle.cell.proofs.StoredCells.{clamped-within}
+use Rattle.lowering.proofs.Theory.WalksKept.{Has, Walked}
+use Rattle.lowering.proofs.Theory.StepsTaken.{Steps, one, both, each, Among, Rule, Puts, Taken, keeps, reached, rule-keeps, rule-reaches}
+use Rattle.lowering.proofs.Theory.CellRules.{constant-rule}
+use Rattle.lowering.proofs.Theory.SweepsTaken.{Any, cells}
+use Rattle.lowering.proofs.Theory.StillSweep.{AllLinks, each-link}
 
 -- ---- the mark everywhere
 
@@ -82,44 +80,32 @@ marks-walked E r n t h =
       has = λ x y hx hy. subst (Has E x y) (sym (is x y hx hy)) tt;
     }
 
--- ---- a cell lowered stays low
+-- ---- the diagonal
 
--- a number in reach is stored as it is
-stored-itself : (reach : ℕ) {c : ℤ} → negℤ (pos reach) ≤ℤ c → c ≤ℤ pos reach → clamped reach (num c) ≤ᶜ num c
-stored-itself reach {c} lo hi = by (clamping reach c)
-  where
-    by : {d : Cell} → Clamping reach c d → d ≤ᶜ num c
-    by (above k) = absurd (omega ints)
-    by (below k) = absurd (omega (ints, neg (pos reach)))
-    by (in-reach k l) = ≤ℤ-refl c
+module _ (E : ℕ → ℕ → ℤ → Type 0) (r : Ranges) (h : Coherent r) (n : ℕ) where
+  diagonal-rule : (x : ℕ) → x < n → Rule E r n x x (λ t. num (pos zero))
+  diagonal-rule x hx = constant-rule E r n (num (pos zero)) hx hx (exactly stay)
 
-module _ (r : Ranges) (h : Coherent r) (n : ℕ) where
-  -- a cell lowered to a number in reach is at most that
-  pub cell-below : (x y : ℕ) (c : ℤ) (t : List ℤ) → x < n → y < n → Sound r n t → negℤ (pos (r .reach)) ≤ℤ c → c ≤ℤ pos (r .reach)
-      → tableOf r n (lowerCell r n x y (num c) t) x y ≤ᶜ num c
-  cell-below x y c t hx hy s lo hi =
-      ⊎-elim
-      (λ e. subst (λ (d : Cell). d ≤ᶜ num c) (sym (e .1))
-      (≤ᶜ-trans (smallerᶜ (clamped (r .reach) (num c)) (tableOf r n t x y)) (clamped (r .reach) (num c)) (num c)
-      (smaller-left (clamped (r .reach) (num c)) (tableOf r n t x y)) (stored-itself (r .reach) lo hi)))
-      (λ e. absurd (e .0 (refl, refl))) (after-lowering r h n x y (num c) t s hx hy x y hx hy)
+  pub diagonal-steps : Steps (Walked E r n) r n (diagonalAll r n)
+  unfolding diagonalAll
+  diagonal-steps = each n (λ x hx. one (rule-keeps (cells E r h n) (diagonal-rule x hx)))
 
-  -- what one step brings below a cell stays below it
-  pub iter-below : (x y m : ℕ) (c : Cell) (f : ℕ → List ℤ → List ℤ) → x < n → y < n → Lowers r n m f
-      → (i : ℕ) → i < m → ((t : List ℤ) → Sound r n t → tableOf r n (f i t) x y ≤ᶜ c)
-      → (t : List ℤ) → Sound r n t → tableOf r n (iter f m t) x y ≤ᶜ c
-  iter-below x y zero c f hx hy l i hi k t s = absurd (not-suc-le-zero hi)
-  iter-below x y (suc m) c f hx hy l i hi k t s =
-      let l′ : Lowers r n m f = λ j q. l j (omega arith) in
-      let u : List ℤ = iter f m t in
-      let su : Sound r n u = iter-lowered r n m f l′ t s .sound in
-      ⊎-elim
-      (λ e. subst (λ (j : ℕ). tableOf r n (f j u) x y ≤ᶜ c) e (k u su))
-      (λ e. ≤ᶜ-trans (tableOf r n (f m u) x y) (tableOf r n u x y) c (l m (omega arith) u su .down x y hx hy)
-      (iter-below x y m c f hx hy l′ i e k t s))
-      (eq-or-lt-of-le (le-of-suc-le-suc hi))
+  pub diagonal-among : (x : ℕ) → x < n → Among (Walked E r n) Any r n x x (λ t. num (pos zero)) diagonal-steps
+  unfolding diagonal-steps
+  diagonal-among x hx = (x, hx, rule-reaches (cells E r h n) (diagonal-rule x hx))
 
--- ---- the parts of the first tables
+  -- a cell brought down to a number in reach is at most it
+  pub number-below : {x y : ℕ} {c : ℤ} {f : List ℤ → List ℤ} → Rule E r n x y (λ t. num c) → (a : Steps (Walked E r n) r n f)
+      → Among (Walked E r n) Any r n x y (λ t. num c) a → Within (r .reach) (num c) → (t : List ℤ) → Walked E r n t → tableOf r n (f t) x y ≤ᶜ num c
+  number-below {c} l a q within t w = rw (clamped-within (r .reach) (num c) within) at (reached (cells E r h n) l a q t w tt)
+
+  pub zero-within : Within (r .reach) (num (pos zero))
+  zero-within = (omega (ints, neg (pos (r .reach))), omega ints)
+
+  pub diagonal-below : (t : List ℤ) → Walked E r n t → (x : ℕ) → x < n → tableOf r n (diagonalAll r n t) x x ≤ᶜ num (pos zero)
+  diagonal-below t w x hx = number-below (diagonal-rule x hx) diagonal-steps (diagonal-among x hx) zero-within t w
+
+-- ---- every given edge
 
 -- the code's limits are all of the plan's
 pub record AllLimits (p : Plan) (limit : ℕ → Limit) (count : ℕ) : Type 0 where
@@ -128,145 +114,73 @@ pub record AllLimits (p : Plan) (limit : ℕ → Limit) (count : ℕ) : Type 0 w
   pub index-below : (m : Limit) (k : List·Memᴰ m (p .limits)) → index m k < count
   pub index-is : (m : Limit) (k : List·Memᴰ m (p .limits)) → limit (index m k) ≡ m
 
-module _ (p : Plan) (r : Ranges) (h : Coherent r) (g : Pointed p) (b : Weighted (r .weight) p) where
-  -- the diagonal
-  pub diagonal-walked : (E : ℕ → ℕ → ℤ → Type 0) (t : List ℤ) → Walked E r (p .points) t → Walked E r (p .points) (diagonalAll r (p .points) t)
-  unfolding diagonalAll
-  diagonal-walked E t w =
-      iter-keeps (Walked E r (p .points)) (p .points) (λ x. lowerCell r (p .points) x x (num (pos zero)))
-      (λ x hx u k. cell-walked E r h (p .points) x x (num (pos zero)) u hx hx (exactly stay) k) t w
+each-limit : {p : Plan} {limit : ℕ → Limit} {count : ℕ} → AllLimits p limit count → (Q : Limit → Type 0) → ((i : ℕ) → i < count → Q (limit i))
+    → (m : Limit) → List·Memᴰ m (p .limits) → Q m
+each-limit a Q f m k = subst Q (a .index-is m k) (f (a .index m k) (a .index-below m k))
 
-  pub diagonal-lowered : (t : List ℤ) → Sound r (p .points) t → Lowered r (p .points) t (diagonalAll r (p .points) t)
-  unfolding diagonalAll
-  diagonal-lowered t s =
-      iter-lowered r (p .points) (p .points) (λ x. lowerCell r (p .points) x x (num (pos zero))) (diagonal-lowers r h (p .points)) t s
+-- as walks of any edges that hold the given ones
+module _ (p : Plan) (r : Ranges) (h : Coherent r) (g : Pointed p) (b : Weighted (r .weight) p) (limit : ℕ → Limit) (limits : ℕ)
+    (al : AllLimits p limit limits) (link : ℕ → Link) (links : ℕ) (ak : AllLinks p link links) (E : ℕ → ℕ → ℤ → Type 0)
+    (inc : (x y : ℕ) (w : ℤ) → Given p x y w → E x y w) where
+  abbrev storing : Puts E r (p .points) (Walked E r (p .points)) Any (lowerCell r (p .points))
+  storing = cells E r h (p .points)
 
-  pub diagonal-below : (t : List ℤ) → Sound r (p .points) t → (x : ℕ) → x < p .points
-      → tableOf r (p .points) (diagonalAll r (p .points) t) x x ≤ᶜ num (pos zero)
-  unfolding diagonalAll
-  diagonal-below t s x hx =
-      iter-below r h (p .points) x x (p .points) (num (pos zero)) (λ x. lowerCell r (p .points) x x (num (pos zero))) hx hx
-      (diagonal-lowers r h (p .points))
-      x hx
-      (λ u su. cell-below r h (p .points) x x (pos zero) u hx hx su (omega (ints, neg (pos (r .reach)))) (omega ints)) t s
+  given-rule : {x y : ℕ} {w : ℤ} → Given p x y w → Rule E r (p .points) x y (λ t. num w)
+  given-rule {x} {y} {w} e =
+      let q : Ends p x y = given-ends p g e in
+      constant-rule E r (p .points) (num w) (q .from) (q .to) (exactly (single (inc x y w e)))
 
-  -- start edges, as walks of any edges that hold the given ones; so the limits and the links below
-  pub start-walked : (E : ℕ → ℕ → ℤ → Type 0) (inc : (x y : ℕ) (w : ℤ) → Given p x y w → E x y w) (t : List ℤ)
-      → Walked E r (p .points) t → Walked E r (p .points) (startAll r (p .points) t)
-  unfolding startAll
-  start-walked E inc t w =
-      iter-keeps (Walked E r (p .points)) (p .points) (λ x. lowerCell r (p .points) x zero (num (pos zero)))
-      (λ x hx u k.
-      cell-walked E r h (p .points) x zero (num (pos zero)) u hx (g .some-point) (exactly (single (inc _ _ _ (edges.start hx)))) k)
-      t w
+  -- the diagonal, the limits, the start edges, and both ordinary edges of each link
+  given-steps : Steps (Walked E r (p .points)) r (p .points)
+      (λ t. linkAll r (p .points) link links (startAll r (p .points) (limitAll r (p .points) limit limits (diagonalAll r (p .points) t))))
+  unfolding limitAll limitCell startAll linkAll linkEdges
+  given-steps =
+      both
+      (both (both (diagonal-steps E r h (p .points)) (each limits (λ i hi. one (rule-keeps storing (given-rule (edges.limit (al .member i hi)))))))
+      (each (p .points) (λ x hx. one (rule-keeps storing (given-rule (edges.start hx))))))
+      (each links (λ i hi.
+      both (one (rule-keeps storing (given-rule (edges.longest (ak .links .member i hi)))))
+      (one (rule-keeps storing (given-rule (edges.shortest (ak .links .member i hi)))))))
 
-  pub start-lowered : (t : List ℤ) → Sound r (p .points) t → Lowered r (p .points) t (startAll r (p .points) t)
-  unfolding startAll
-  start-lowered t s =
-      iter-lowered r (p .points) (p .points) (λ x. lowerCell r (p .points) x zero (num (pos zero))) (start-lowers r h (p .points)) t s
+  abbrev Holds : ℕ → ℕ → ℤ → Type 0
+  Holds x y w = Among (Walked E r (p .points)) Any r (p .points) x y (λ t. num w) given-steps
 
-  pub start-below : (t : List ℤ) → Sound r (p .points) t → (x : ℕ) → x < p .points
-      → tableOf r (p .points) (startAll r (p .points) t) x zero ≤ᶜ num (pos zero)
-  unfolding startAll
-  start-below t s x hx =
-      iter-below r h (p .points) x zero (p .points) (num (pos zero)) (λ x. lowerCell r (p .points) x zero (num (pos zero))) hx (g .some-point)
-      (start-lowers r h (p .points)) x hx
-      (λ u su. cell-below r h (p .points) x zero (pos zero) u hx (g .some-point) su (omega (ints, neg (pos (r .reach)))) (omega ints)) t s
+  given-among : {x y : ℕ} {w : ℤ} → Given p x y w → Holds x y w
+  unfolding given-steps
+  given-among (edges.limit {m} k) =
+      each-limit al (λ m. Holds (m .from) (m .to) (m .weight))
+      (λ i hi. inl (inl (inr (i, hi, rule-reaches storing (given-rule (edges.limit (al .member i hi))))))) m k
+  given-among (edges.start {x} k) = inl (inr (x, k, rule-reaches storing (given-rule (edges.start k))))
+  given-among (edges.longest {k} m) =
+      each-link ak (λ k. Holds (k .act) (k .con) (pos (k .long)))
+      (λ i hi. inr (i, hi, inl (rule-reaches storing (given-rule (edges.longest (ak .links .member i hi)))))) k m
+  given-among (edges.shortest {k} m) =
+      each-link ak (λ k. Holds (k .con) (k .act) (negℤ (pos (k .short))))
+      (λ i hi. inr (i, hi, inr (rule-reaches storing (given-rule (edges.shortest (ak .links .member i hi)))))) k m
 
-  -- a given edge's weight is in reach
-  in-reach-low : (x y : ℕ) (w : ℤ) → Given p x y w → negℤ (pos (r .reach)) ≤ℤ w
-  in-reach-low x y w e = omega (ints, basic-least b (basic-given e), h .holds-weight, neg (pos (r .weight)), neg (pos (r .reach)))
+  -- the first strict table
+  module _ (t : List ℤ) (room : p .points * p .points ≤ length t) where
+    marked : Walked E r (p .points) (markAll r (p .points * p .points) t)
+    marked = marks-walked E r (p .points) t room
 
-  in-reach-high : (x y : ℕ) (w : ℤ) → Given p x y w → w ≤ℤ pos (r .reach)
-  in-reach-high x y w e = omega (ints, given-most b x y w e, h .holds-weight)
+    -- has its walks
+    pub first-taken : Taken (Walked E r (p .points)) r (p .points) (markAll r (p .points * p .points) t)
+        (firstStrict r (p .points) limit limits link links t)
+    unfolding firstStrict
+    first-taken = keeps storing given-steps (markAll r (p .points * p .points) t) marked
 
-  -- limits
-  module _ (limit : ℕ → Limit) (count : ℕ) (a : AllLimits p limit count) where
-    lowers-limits : Lowers r (p .points) count (λ i. limitCell r (p .points) (limit i))
-    lowers-limits =
-        limit-lowers r h (p .points) limit count (λ i hi. g .limit-from (limit i) (a .member i hi))
-        (λ i hi. g .limit-to (limit i) (a .member i hi))
+    -- is at most each given edge, whose weight is in reach
+    pub first-below : (x y : ℕ) (v : ℤ) → Given p x y v → tableOf r (p .points) (firstStrict r (p .points) limit limits link links t) x y ≤ᶜ num v
+    unfolding firstStrict
+    first-below x y v e =
+        number-below E r h (p .points) (given-rule e) given-steps (given-among e) (
+          omega (ints, basic-least b (basic-given e), h .holds-weight, neg (pos (r .weight)), neg (pos (r .reach))),
+          omega (ints, given-most b x y v e, h .holds-weight),
+        ) (markAll r (p .points * p .points) t) marked
 
-    pub limit-walked : (E : ℕ → ℕ → ℤ → Type 0) (inc : (x y : ℕ) (w : ℤ) → Given p x y w → E x y w) (t : List ℤ)
-        → Walked E r (p .points) t → Walked E r (p .points) (limitAll r (p .points) limit count t)
-    unfolding limitAll limitCell
-    limit-walked E inc t w =
-        iter-keeps (Walked E r (p .points)) count (λ i. limitCell r (p .points) (limit i))
-        (λ i hi u k.
-        cell-walked E r h (p .points) (limit i .from) (limit i .to) (num (limit i .weight)) u
-        (g .limit-from (limit i) (a .member i hi)) (g .limit-to (limit i) (a .member i hi))
-        (exactly (single (inc _ _ _ (edges.limit (a .member i hi))))) k)
-        t w
-
-    pub limit-lowered : (t : List ℤ) → Sound r (p .points) t → Lowered r (p .points) t (limitAll r (p .points) limit count t)
-    unfolding limitAll
-    limit-lowered t s = iter-lowered r (p .points) count (λ i. limitCell r (p .points) (limit i)) lowers-limits t s
-
-    pub limit-below : (t : List ℤ) → Sound r (p .points) t → (m : Limit) → List·Memᴰ m (p .limits)
-        → tableOf r (p .points) (limitAll r (p .points) limit count t) (m .from) (m .to) ≤ᶜ num (m .weight)
-    unfolding limitAll limitCell
-    limit-below t s m k =
-        iter-below r h (p .points) (m .from) (m .to) count (num (m .weight)) (λ i. limitCell r (p .points) (limit i)) (g .limit-from m k)
-        (g .limit-to m k) lowers-limits (a .index m k) (a .index-below m k)
-        (λ u su.
-        subst (λ (l : Limit). tableOf r (p .points) (limitCell r (p .points) l u) (m .from) (m .to) ≤ᶜ num (m .weight)) (sym (a .index-is m k))
-        (cell-below r h (p .points) (m .from) (m .to) (m .weight) u (g .limit-from m k) (g .limit-to m k) su
-        (in-reach-low (m .from) (m .to) (m .weight) (edges.limit k)) (in-reach-high (m .from) (m .to) (m .weight) (edges.limit k)))) t s
-
-  -- links
-  module _ (link : ℕ → Link) (count : ℕ) (a : AllLinks p link count) where
-    link-lowers : Lowers r (p .points) count (λ i. linkEdges r (p .points) (link i))
-    link-lowers = edges-lowers r h (p .points) link count (a .links .points)
-
-    pub link-walked : (E : ℕ → ℕ → ℤ → Type 0) (inc : (x y : ℕ) (w : ℤ) → Given p x y w → E x y w) (t : List ℤ)
-        → Walked E r (p .points) t → Walked E r (p .points) (linkAll r (p .points) link count t)
-    unfolding linkAll linkEdges
-    link-walked E inc t w =
-        iter-keeps (Walked E r (p .points)) count (λ i. linkEdges r (p .points) (link i))
-        (λ i hi u k.
-        let m : List·Memᴰ (link i) (p .links) = a .links .member i hi in
-        cell-walked E r h (p .points) (link i .con) (link i .act) (num (negℤ (pos (link i .short))))
-        (lowerCell r (p .points) (link i .act) (link i .con) (num (pos (link i .long))) u) (g .link-con (link i) m) (g .link-act (link i) m)
-        (exactly (single (inc _ _ _ (edges.shortest m))))
-        (cell-walked E r h (p .points) (link i .act) (link i .con) (num (pos (link i .long))) u (g .link-act (link i) m)
-        (g .link-con (link i) m) (exactly (single (inc _ _ _ (edges.longest m)))) k))
-        t w
-
-    pub link-lowered : (t : List ℤ) → Sound r (p .points) t → Lowered r (p .points) t (linkAll r (p .points) link count t)
-    unfolding linkAll
-    link-lowered t s = iter-lowered r (p .points) count (λ i. linkEdges r (p .points) (link i)) link-lowers t s
-
-    pub longest-below : (t : List ℤ) → Sound r (p .points) t → (k : Link) → List·Memᴰ k (p .links)
-        → tableOf r (p .points) (linkAll r (p .points) link count t) (k .act) (k .con) ≤ᶜ num (pos (k .long))
-    unfolding linkAll linkEdges
-    longest-below t s k m =
-        iter-below r h (p .points) (k .act) (k .con) count (num (pos (k .long))) (λ i. linkEdges r (p .points) (link i)) (g .link-act k m)
-        (g .link-con k m) link-lowers (a .index k m) (a .index-below k m)
-        (λ u su.
-        subst (λ (l : Link). tableOf r (p .points) (linkEdges r (p .points) l u) (k .act) (k .con) ≤ᶜ num (pos (k .long))) (sym (a .index-is k m))
-        (let v : List ℤ = lowerCell r (p .points) (k .act) (k .con) (num (pos (k .long))) u in
-        let first : Lowered r (p .points) u v =
-        cell-lowered r h (p .points) (k .act) (k .con) (num (pos (k .long))) u (g .link-act k m) (g .link-con k m) su in
-        let second : Lowered r (p .points) v (linkEdges r (p .points) k u) =
-        cell-lowered r h (p .points) (k .con) (k .act) (num (negℤ (pos (k .short)))) v (g .link-con k m) (g .link-act k m) (first .sound) in
-        ≤ᶜ-trans (tableOf r (p .points) (linkEdges r (p .points) k u) (k .act) (k .con)) (tableOf r (p .points) v (k .act) (k .con))
-        (num (pos (k .long))) (second .down (k .act) (k .con) (g .link-act k m) (g .link-con k m))
-        (cell-below r h (p .points) (k .act) (k .con) (pos (k .long)) u (g .link-act k m) (g .link-con k m) su
-        (in-reach-low (k .act) (k .con) (pos (k .long)) (edges.longest m)) (in-reach-high (k .act) (k .con) (pos (k .long)) (edges.longest m)))))
-        t s
-
-    pub shortest-below : (t : List ℤ) → Sound r (p .points) t → (k : Link) → List·Memᴰ k (p .links)
-        → tableOf r (p .points) (linkAll r (p .points) link count t) (k .con) (k .act) ≤ᶜ num (negℤ (pos (k .short)))
-    unfolding linkAll linkEdges
-    shortest-below t s k m =
-        iter-below r h (p .points) (k .con) (k .act) count (num (negℤ (pos (k .short)))) (λ i. linkEdges r (p .points) (link i)) (g .link-con k m)
-        (g .link-act k m) link-lowers (a .index k m) (a .index-below k m)
-        (λ u su.
-        subst (λ (l : Link). tableOf r (p .points) (linkEdges r (p .points) l u) (k .con) (k .act) ≤ᶜ num (negℤ (pos (k .short))))
-        (sym (a .index-is k m))
-        (cell-below r h (p .points) (k .con) (k .act) (negℤ (pos (k .short)))
-        (lowerCell r (p .points) (k .act) (k .con) (num (pos (k .long))) u) (g .link-con k m) (g .link-act k m)
-        (cell-lowered r h (p .points) (k .act) (k .con) (num (pos (k .long))) u (g .link-act k m) (g .link-con k m) su .sound)
-        (in-reach-low (k .con) (k .act) (negℤ (pos (k .short))) (edges.shortest m))
-        (in-reach-high (k .con) (k .act) (negℤ (pos (k .short))) (edges.shortest m))))
-        t s
+    -- and at most 0 on the diagonal
+    pub first-diagonal : (x : ℕ) → x < p .points → tableOf r (p .points) (firstStrict r (p .points) limit limits link links t) x x ≤ᶜ num (pos zero)
+    unfolding firstStrict given-steps
+    first-diagonal x hx =
+        number-below E r h (p .points) (diagonal-rule E r h (p .points) x hx) given-steps (inl (inl (inl (diagonal-among E r h (p .points) x hx))))
+        (zero-within E r h (p .points)) (markAll r (p .points * p .points) t) marked

@@ -40,66 +40,51 @@ height-same reach (num a) (num b) s u h e =
     (ints, s .0, u .0, plus a (pos (suc reach)), plus b (pos (suc reach)), parts (a +ℤ pos (suc reach)), parts (b +ℤ pos (suc reach))) in
     ap num (omega ints)
 
--- the cells of two lists, by their index: stored, and none above the other
-record Under (r : Ranges) (m : ℕ) (u t : List ℤ) : Type 0 where
-  above-stored : (i : ℕ) → i < m → Stored (r .reach) (cellOf (r .mark) (getD t i (pos zero)))
-  below-stored : (i : ℕ) → i < m → Stored (r .reach) (cellOf (r .mark) (getD u i (pos zero)))
-  below : (i : ℕ) → i < m → cellOf (r .mark) (getD u i (pos zero)) ≤ᶜ cellOf (r .mark) (getD t i (pos zero))
+-- a cell by its index
+abbrev cell : Ranges → List ℤ → ℕ → Cell
+cell r t i = cellOf (r .mark) (getD t i (pos zero))
 
-fewer : (r : Ranges) (m : ℕ) (u t : List ℤ) → Under r (suc m) u t → Under r m u t
-fewer r m u t h =
-    record {
-      above-stored = λ i k. h .above-stored i (omega arith);
-      below-stored = λ i k. h .below-stored i (omega arith);
-      below = λ i k. h .below i (omega arith);
-    }
+-- the cells of two lists at an index: stored, and the first not above the second
+record Under (r : Ranges) (u t : List ℤ) (i : ℕ) : Type 0 where
+  above-stored : Stored (r .reach) (cell r t i)
+  below-stored : Stored (r .reach) (cell r u i)
+  below : cell r u i ≤ᶜ cell r t i
 
-under-heights : (r : Ranges) (m : ℕ) (u t : List ℤ) → Under r m u t → heights r m u ≤ heights r m t
+-- it stands no higher, and is the same if it stands as high
+under-height : {r : Ranges} {u t : List ℤ} {i : ℕ} → Under r u t i → height (r .reach) (cell r u i) ≤ height (r .reach) (cell r t i)
+under-height {r} {u} {t} {i} h = height-mono (r .reach) (cell r u i) (cell r t i) (h .below-stored) (h .above-stored) (h .below)
+
+under-cell : {r : Ranges} {u t : List ℤ} {i : ℕ} → Under r u t i → height (r .reach) (cell r t i) ≤ height (r .reach) (cell r u i)
+    → cell r u i ≡ cell r t i
+under-cell {r} {u} {t} {i} h e = height-same (r .reach) (cell r u i) (cell r t i) (h .below-stored) (h .above-stored) (h .below) e
+
+under-heights : (r : Ranges) (m : ℕ) (u t : List ℤ) → ((i : ℕ) → i < m → Under r u t i) → heights r m u ≤ heights r m t
 unfolding heights
 under-heights r zero u t h = omega arith
-under-heights r (suc m) u t h =
-    let l : m < suc m = omega arith in
-    let c : Cell = cellOf (r .mark) (getD u m (pos zero)) in
-    let d : Cell = cellOf (r .mark) (getD t m (pos zero)) in
-    let k : height (r .reach) c ≤ height (r .reach) d =
-    height-mono (r .reach) c d (h .below-stored m l) (h .above-stored m l) (h .below m l) in
-    omega (arith, under-heights r m u t (fewer r m u t h))
+under-heights r (suc m) u t h = omega (arith, under-height (h m (omega arith)), under-heights r m u t (λ i k. h i (omega arith)))
 
-under-same : (r : Ranges) (m : ℕ) (u t : List ℤ) → Under r m u t → heights r m t ≤ heights r m u
-    → (i : ℕ) → i < m → cellOf (r .mark) (getD u i (pos zero)) ≡ cellOf (r .mark) (getD t i (pos zero))
+under-same : (r : Ranges) (m : ℕ) (u t : List ℤ) → ((i : ℕ) → i < m → Under r u t i) → heights r m t ≤ heights r m u
+    → (i : ℕ) → i < m → cell r u i ≡ cell r t i
 unfolding heights
 under-same r zero u t h e i k = absurd (not-suc-le-zero k)
 under-same r (suc m) u t h e i k =
-    let l : m < suc m = omega arith in
-    let c : Cell = cellOf (r .mark) (getD u m (pos zero)) in
-    let d : Cell = cellOf (r .mark) (getD t m (pos zero)) in
-    let q : height (r .reach) c ≤ height (r .reach) d =
-    height-mono (r .reach) c d (h .below-stored m l) (h .above-stored m l) (h .below m l) in
-    let less : heights r m u ≤ heights r m t = under-heights r m u t (fewer r m u t h) in
-    ⊎-elim
-    (λ j.
-    subst (λ (o : ℕ). cellOf (r .mark) (getD u o (pos zero)) ≡ cellOf (r .mark) (getD t o (pos zero))) (sym j)
-    (height-same (r .reach) c d (h .below-stored m l) (h .above-stored m l) (h .below m l) (omega (arith, e, q, less))))
-    (λ j. under-same r m u t (fewer r m u t h) (omega (arith, e, q, less)) i j) (eq-or-lt-of-le (le-of-suc-le-suc k))
+    let last : Under r u t m = h m (omega arith) in
+    let q : height (r .reach) (cell r u m) ≤ height (r .reach) (cell r t m) = under-height last in
+    let less : heights r m u ≤ heights r m t = under-heights r m u t (λ i k. h i (omega arith)) in
+    ⊎-elim (λ j. rw j (under-cell last (omega (arith, e, q, less))))
+    (λ j. under-same r m u t (λ i k. h i (omega arith)) (omega (arith, e, q, less)) i j) (eq-or-lt-of-le (le-of-suc-le-suc k))
 
 module _ (r : Ranges) (n : ℕ) (t u : List ℤ) (s : Sound r n t) (l : Lowered r n t u) where
-  by-index : Under r (n * n) u t
+  by-index : (i : ℕ) → i < n * n → Under r u t i
   unfolding tableOf
-  by-index =
-      record {
-        above-stored = λ i k.
-            let a : Spot n i = spot n i k in
-            subst (λ (j : ℕ). Stored (r .reach) (cellOf (r .mark) (getD t j (pos zero)))) (sym (a .is))
-            (s .stored (a .row) (a .column) (a .row-below) (a .column-below));
-        below-stored = λ i k.
-            let a : Spot n i = spot n i k in
-            subst (λ (j : ℕ). Stored (r .reach) (cellOf (r .mark) (getD u j (pos zero)))) (sym (a .is))
-            (l .sound .stored (a .row) (a .column) (a .row-below) (a .column-below));
-        below = λ i k.
-            let a : Spot n i = spot n i k in
-            subst (λ (j : ℕ). cellOf (r .mark) (getD u j (pos zero)) ≤ᶜ cellOf (r .mark) (getD t j (pos zero))) (sym (a .is))
-            (l .down (a .row) (a .column) (a .row-below) (a .column-below));
-      }
+  by-index i k =
+      let a : Spot n i = spot n i k in
+      subst (Under r u t) (sym (a .is))
+      (record {
+        above-stored = s .stored (a .row) (a .column) (a .row-below) (a .column-below);
+        below-stored = l .sound .stored (a .row) (a .column) (a .row-below) (a .column-below);
+        below = l .down (a .row) (a .column) (a .row-below) (a .column-below);
+      })
 
   -- lowering never raises the sum of heights
   pub lowered-heights : heights r (n * n) u ≤ heights r (n * n) t

@@ -1,23 +1,24 @@
 -- Lowering one cell, and steps made of it: lengths and cells past the room stay, no cell rises, the stored range stays. Steps that leave a list as it was
 -- left it so one by one. Over any coherent ranges, so at any width. Assumes nothing.
-use mathlib.Core.Path.{_≡_, refl, sym, ap, subst, _∙_}
+use mathlib.Core.Path.{_≡_, refl, ap, _∙_}
+use mathlib.Core.Bool.{Bool, true, false, cond}
 use mathlib.Core.Logic.{_⊎_, inl, inr, ⊎-elim}
 use mathlib.Core.List.{List}
 use Prim.Native.Nat.{ℕ, zero, suc, _+_, _*_, _≤_, _<_}
-use native.Mathlib.Nat.{not-suc-le-zero, eq-or-lt-of-le, le-of-suc-le-suc}
 use native.Mathlib.Omega.{arith}
 use lib.ListN.{length, getD, length-set}
 use lib.Seq.{getD-set-other}
 use lib.IntN.{ℤ, pos}
+use Rattle.whole.proofs.Order.{ints}
 use Rattle.whole.proofs.Place.{inside, after-write}
 use Rattle.rules.specs.Plan.{Ranges}
 use Rattle.rules.proofs.Coherence.{Coherent}
-use Rattle.rules.proofs.Lists.{same-list}
-use Rattle.rules.specs.Cells.{Cell, _≤ᶜ_, cellOf, tableOf}
+use Rattle.rules.specs.Cells.{Cell, mark, num, _≤ᶜ_, Within, cellOf, tableOf}
 use Rattle.cell.specs.Steps.{smallerᶜ, Stored, clamped, numberOf}
 use Rattle.lowering.specs.Table.{Sound}
+use Rattle.lowering.specs.Fair.{Fair}
 use Rattle.lowering.specs.Sweep.{iter, lowerCell}
-use Rattle.cell.proofs.StoredCells.{≤ᶜ-refl, ≤ᶜ-trans, ≤ᶜ-antisym, smaller-left, smaller-right, clamped-stored}
+use Rattle.cell.proofs.StoredCells.{≤ᶜ-refl, ≤ᶜ-trans, smaller-left, smaller-right, clamped-stored}
 use Rattle.lowering.proofs.Theory.StoredNumbers.{cell-of-number, smaller-keeps}
 
 -- u is t with cells lowered
@@ -40,11 +41,34 @@ lowered-trans r n t u v a b =
       sound = b .sound;
     }
 
--- a list lowered, and lowered back to what it was, was not changed
-pub lowered-antisym : (r : Ranges) (n : ℕ) (t u : List ℤ) → Lowered r n t u → Lowered r n u t → u ≡ t
-lowered-antisym r n t u a b =
-    same-list r n u t (a .same-length) (a .beyond)
-    (λ x y hx hy. ≤ᶜ-antisym (tableOf r n u x y) (tableOf r n t x y) (a .down x y hx hy) (b .down x y hx hy))
+-- a list lowered, and that lowered
+pub lowered-then : {r : Ranges} {n : ℕ} {t u v : List ℤ} → Lowered r n t u → (Sound r n u → Lowered r n u v) → Lowered r n t v
+lowered-then {r} {n} {t} {u} {v} a f = lowered-trans r n t u v a (f (a .sound))
+
+-- what both sides of a test keep
+pub by-test : (P : List ℤ → Type 0) (b : Bool) {t u : List ℤ} → (b ≡ true → P t) → (b ≡ false → P u) → P (cond b t u)
+by-test P true p q = p refl
+by-test P false p q = q refl
+
+-- a cell that was at most another stays so
+pub lowered-below : {r : Ranges} {n : ℕ} {t u : List ℤ} → Lowered r n t u → (x y : ℕ) → x < n → y < n → (c : Cell) → tableOf r n t x y ≤ᶜ c
+    → tableOf r n u x y ≤ᶜ c
+lowered-below {r} {n} {t} {u} l x y hx hy c q = ≤ᶜ-trans (tableOf r n u x y) (tableOf r n t x y) c (l .down x y hx hy) q
+
+-- a fair table was fair before it was lowered
+pub fair-before : {r : Ranges} {n : ℕ} {t u : List ℤ} → Sound r n t → Lowered r n t u → Fair r n u → Fair r n t
+fair-before {r} {n} {t} {u} s l f =
+    record {
+      within = λ x y hx hy.
+          within (tableOf r n t x y) (tableOf r n u x y) (s .stored x y hx hy) (l .down x y hx hy) (f .within x y hx hy);
+      diagonal = λ x hx.
+          ≤ᶜ-trans (num (pos zero)) (tableOf r n u x x) (tableOf r n t x x) (f .diagonal x hx) (l .down x x hx hx);
+    }
+  where
+    within : (c d : Cell) → Stored (r .reach) c → d ≤ᶜ c → Within (r .reach) d → Within (r .reach) c
+    within mark d k q m = tt
+    within (num c) mark k q m = absurd q
+    within (num c) (num d) k q m = (omega (ints, q, m .0), k .1)
 
 -- ---- one cell
 
@@ -89,14 +113,11 @@ module _ (r : Ranges) (h : Coherent r) (n : ℕ) where
         };
       }
 
-  -- a cell that lowering left as it was is at most what it was lowered to
-  pub cell-fixed : (x y : ℕ) (c : Cell) (t : List ℤ) → x < n → y < n → Sound r n t → lowerCell r n x y c t ≡ t
-      → tableOf r n t x y ≤ᶜ clamped (r .reach) c
-  cell-fixed x y c t hx hy s e =
-      ⊎-elim
-      (λ k. subst (λ (d : Cell). d ≤ᶜ clamped (r .reach) c) (sym (k .1) ∙ ap (λ (u : List ℤ). tableOf r n u x y) e)
-      (smaller-left (clamped (r .reach) c) (tableOf r n t x y)))
-      (λ k. absurd (k .0 (refl, refl))) (after-lowering x y c t s hx hy x y hx hy)
+  -- the cell is at most what is stored
+  pub cell-down : (x y : ℕ) (c : Cell) (t : List ℤ) → x < n → y < n → Sound r n t → tableOf r n (lowerCell r n x y c t) x y ≤ᶜ clamped (r .reach) c
+  cell-down x y c t hx hy s =
+      ⊎-elim (λ e. rw (e .1) (smaller-left (clamped (r .reach) c) (tableOf r n t x y))) (λ e. absurd (e .0 (refl, refl)))
+      (after-lowering x y c t s hx hy x y hx hy)
 
 -- ---- steps
 
@@ -111,28 +132,3 @@ iter-lowered r n zero f l t s = lowered-refl r n t s
 iter-lowered r n (suc m) f l t s =
     let b : Lowered r n t (iter f m t) = iter-lowered r n m f (λ i k. l i (omega arith)) t s in
     lowered-trans r n t (iter f m t) (f m (iter f m t)) b (l m (omega arith) (iter f m t) (b .sound))
-
--- steps that leave a list as it was leave it so one by one
-pub iter-fixed : (r : Ranges) (n m : ℕ) (f : ℕ → List ℤ → List ℤ) → Lowers r n m f → (t : List ℤ) → Sound r n t
-    → iter f m t ≡ t → (i : ℕ) → i < m → f i t ≡ t
-iter-fixed r n zero f l t s e i k = absurd (not-suc-le-zero k)
-iter-fixed r n (suc m) f l t s e i k =
-    let l′ : Lowers r n m f = λ j q. l j (omega arith) in
-    let b : Lowered r n t (iter f m t) = iter-lowered r n m f l′ t s in
-    let a : Lowered r n (iter f m t) t = subst (λ (u : List ℤ). Lowered r n (iter f m t) u) e (l m (omega arith) (iter f m t) (b .sound)) in
-    let same : iter f m t ≡ t = lowered-antisym r n t (iter f m t) b a in
-    ⊎-elim (λ q. subst (λ (j : ℕ). f j t ≡ t) (sym q) (sym (ap (f m) same) ∙ e)) (λ q. iter-fixed r n m f l′ t s same i q)
-    (eq-or-lt-of-le (le-of-suc-le-suc k))
-
--- two steps that together leave a list as it was leave it so one by one
-pub both-fixed : (r : Ranges) (n : ℕ) (f g : List ℤ → List ℤ) (t : List ℤ) → Lowered r n t (f t) → Lowered r n (f t) (g (f t)) → g (f t) ≡ t
-    → (f t ≡ t) × (g t ≡ t)
-both-fixed r n f g t a b e =
-    let same : f t ≡ t = lowered-antisym r n t (f t) a (subst (λ (u : List ℤ). Lowered r n (f t) u) e b) in
-    (same, sym (ap g same) ∙ e)
-
--- what every step keeps, all of them keep
-pub iter-keeps : (P : List ℤ → Type 0) (m : ℕ) (f : ℕ → List ℤ → List ℤ) → ((i : ℕ) → i < m → (t : List ℤ) → P t → P (f i t))
-    → (t : List ℤ) → P t → P (iter f m t)
-iter-keeps P zero f k t p = p
-iter-keeps P (suc m) f k t p = k m (omega arith) (iter f m t) (iter-keeps P m f (λ i q. k i (omega arith)) t p)

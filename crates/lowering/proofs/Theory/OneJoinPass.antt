@@ -10,88 +10,27 @@ use native.Mathlib.Nat.{mul-le-mul-left, le-trans, eq-or-lt-of-le, le-of-suc-le-
 use native.Mathlib.Omega.{arith}
 use native.Mathlib.Decide.{ℕ-discrete}
 use lib.ListN.{length}
-use lib.IntN.{ℤ, pos, negsuc, _+ℤ_}
+use lib.IntN.{ℤ, pos, _+ℤ_}
 use lib.Signed.{_≤ℤ_, ≤ℤ-refl, clashℤ}
-use Rattle.whole.proofs.Order.{ints, plus, neg, plus-mono}
+use Rattle.whole.proofs.Order.{ints, plus, neg}
 use Rattle.rules.specs.Plan.{Plan, Ranges}
 use Rattle.rules.proofs.Coherence.{Coherent}
 use Rattle.rules.specs.Edges.{Given, Open}
 use Rattle.rules.specs.Walks.{Walk, stay, step, NegativeWalk}
-use Rattle.rules.specs.Cells.{Cell, mark, num, _+ᶜ_, _≤ᶜ_, Within, tableOf}
+use Rattle.rules.specs.Cells.{Cell, mark, num, _+ᶜ_, _≤ᶜ_, tableOf}
 use Rattle.rules.proofs.Cells.{AtMost, at-most, under, sum, raised, by-at-most}
-use Rattle.rules.proofs.Walks.{append}
 use Rattle.rules.proofs.Points.{Pointed, Weighted, Ends, given-ends}
-use Rattle.rules.proofs.Shortening.{Trail, stop, go, Short, few, shorten}
+use Rattle.rules.proofs.Shortening.{Trail, stop, go, Short, few, shorten, trail-walk}
 use Rattle.rules.proofs.Reach.{GivenTrail, given-trail, given-most}
-use Rattle.cell.specs.Steps.{Stored, clamped}
-use Rattle.cell.proofs.StoredCells.{≤ᶜ-trans, ≤ᶜ-mark, +ᶜ-mono, smaller-left}
-use Rattle.lowering.specs.Sweep.{iter, lowerCell, joinCell, joinRow, joinMiddle, joinAll}
-use Rattle.lowering.specs.Table.{Sound}
+use Rattle.cell.specs.Steps.{clamped}
+use Rattle.cell.proofs.StoredCells.{≤ᶜ-trans, ≤ᶜ-mark}
+use Rattle.lowering.specs.Sweep.{iter, lowerCell, joinMiddle, joinAll}
 use Rattle.lowering.specs.Fair.{Fair}
-use Rattle.lowering.proofs.Theory.StoredNumbers.{Clamping, above, below, inside, clamping}
-use Rattle.lowering.proofs.Theory.LoweredTables.{Lowered, Lowers, lowered-refl, lowered-trans, after-lowering, iter-lowered}
-use Rattle.lowering.proofs.Theory.SweepSteps.{cell-lowers, row-lowers, middle-lowers}
-use Rattle.lowering.proofs.Theory.WalksKept.{Has, Walked, joins-walked}
-use Rattle.lowering.proofs.Theory.StillSweep.{stored-at-most, exact}
-
--- ---- one middle point
-
--- what is stored of a smaller cell is no larger
-clamped-mono : (reach : ℕ) (c d : Cell) → c ≤ᶜ d → clamped reach c ≤ᶜ clamped reach d
-clamped-mono reach c mark h = ≤ᶜ-mark (clamped reach c)
-clamped-mono reach mark (num d) h = absurd h
-clamped-mono reach (num c) (num d) h = by (clamping reach c) (clamping reach d)
-  where
-    by : {a b : Cell} → Clamping reach c a → Clamping reach d b → a ≤ᶜ b
-    by {a} k (above l) = ≤ᶜ-mark a
-    by (above k) (below l) = absurd (omega (ints, h))
-    by (above k) (inside l m) = absurd (omega (ints, h))
-    by (below k) (below l) = ≤ℤ-refl (negsuc reach)
-    by (below k) (inside l m) = omega (ints, neg (pos reach))
-    by (inside k l) (below m) = absurd (omega (ints, h, neg (pos reach)))
-    by (inside k l) (inside m o) = h
-
-module _ (r : Ranges) (h : Coherent r) (n : ℕ) where
-  -- what one step brings a cell below, wherever the steps before it lowered the table to, all of them do
-  iter-from : (x y m : ℕ) (c : Cell) (f : ℕ → List ℤ → List ℤ) → x < n → y < n → Lowers r n m f
-      → (i : ℕ) → i < m → (t : List ℤ) → Sound r n t
-      → ((u : List ℤ) → Lowered r n t u → tableOf r n (f i u) x y ≤ᶜ c)
-      → tableOf r n (iter f m t) x y ≤ᶜ c
-  iter-from x y zero c f hx hy l i hi t s k = absurd (not-suc-le-zero hi)
-  iter-from x y (suc m) c f hx hy l i hi t s k =
-      let l′ : Lowers r n m f = λ j q. l j (omega arith) in
-      let u : List ℤ = iter f m t in
-      let d : Lowered r n t u = iter-lowered r n m f l′ t s in
-      ⊎-elim
-      (λ e. subst (λ (j : ℕ). tableOf r n (f j u) x y ≤ᶜ c) e (k u d))
-      (λ e. ≤ᶜ-trans (tableOf r n (f m u) x y) (tableOf r n u x y) c (l m (omega arith) u (d .sound) .down x y hx hy)
-      (iter-from x y m c f hx hy l′ i e t s k))
-      (eq-or-lt-of-le (le-of-suc-le-suc hi))
-
-  -- a cell lowered is at most what is stored
-  lowered-to : (x y : ℕ) (c : Cell) (t : List ℤ) → x < n → y < n → Sound r n t
-      → tableOf r n (lowerCell r n x y c t) x y ≤ᶜ clamped (r .reach) c
-  lowered-to x y c t hx hy s =
-      ⊎-elim
-      (λ e. subst (λ (d : Cell). d ≤ᶜ clamped (r .reach) c) (sym (e .1)) (smaller-left (clamped (r .reach) c) (tableOf r n t x y)))
-      (λ e. absurd (e .0 (refl, refl))) (after-lowering r h n x y c t s hx hy x y hx hy)
-
-  -- joined by the middle y, no cell exceeds what is stored of the sum of two along y before
-  middle-joined : (x y z : ℕ) → x < n → y < n → z < n → (t : List ℤ) → Sound r n t
-      → tableOf r n (joinMiddle r n y t) x z ≤ᶜ clamped (r .reach) (tableOf r n t x y +ᶜ tableOf r n t y z)
-  unfolding joinMiddle joinRow joinCell
-  middle-joined x y z hx hy hz t s =
-      iter-from x z n (clamped (r .reach) (tableOf r n t x y +ᶜ tableOf r n t y z)) (joinRow r n y) hx hz (row-lowers r h n y) x hx t s
-      (λ u d.
-      let a : Cell = tableOf r n u x y in
-      iter-from x z n (clamped (r .reach) (tableOf r n t x y +ᶜ tableOf r n t y z)) (joinCell r n y x a) hx hz (cell-lowers r h n y x a hx) z hz u (d .sound)
-      (λ v e.
-      ≤ᶜ-trans (tableOf r n (joinCell r n y x a z v) x z) (clamped (r .reach) (a +ᶜ tableOf r n v y z))
-      (clamped (r .reach) (tableOf r n t x y +ᶜ tableOf r n t y z))
-      (lowered-to x z (a +ᶜ tableOf r n v y z) v hx hz (e .sound))
-      (clamped-mono (r .reach) (a +ᶜ tableOf r n v y z) (tableOf r n t x y +ᶜ tableOf r n t y z)
-      (+ᶜ-mono a (tableOf r n t x y) (tableOf r n v y z) (tableOf r n t y z) (d .down x y hx hy)
-      (≤ᶜ-trans (tableOf r n v y z) (tableOf r n u y z) (tableOf r n t y z) (e .down y z hy hz) (d .down y z hy hz))))))
+use Rattle.lowering.proofs.Theory.LoweredTables.{Lowered, lowered-below, fair-before}
+use Rattle.lowering.proofs.Theory.WalksKept.{Has, has-sum, Walked}
+use Rattle.lowering.proofs.Theory.StepsTaken.{Taken, Keeps, Puts, one, each, keeps}
+use Rattle.lowering.proofs.Theory.SweepsTaken.{Any, cells, middle-keeps, middle-reached, joins-keep}
+use Rattle.lowering.proofs.Theory.StoredNumbers.{stored-at-most, exact}
 
 -- ---- paths
 
@@ -105,42 +44,38 @@ some-edge : {p : Plan} {k x z : ℕ} {s : ℤ} {l : ℕ} → Path p k x z s l �
 some-edge (edge e) = omega arith
 some-edge (more e hy t) = omega arith
 
+-- a path of some total, of l edges
+record Some (p : Plan) (k x z l : ℕ) : Type 0 where
+  total : ℤ
+  path : Path p k x z total l
+
+abbrev some : {p : Plan} {k x z l : ℕ} {s : ℤ} → Path p k x z s l → Some p k x z l
+some {s} t = record { total = s; path = t }
+
 -- a path that meets k, cut where it first comes to k and where it last leaves it: what lies between are paths from k to k
 record Parts (p : Plan) (k x z : ℕ) (s : ℤ) (l : ℕ) : Type 0 where
-  first-total : ℤ
   first-length : ℕ
-  first : Path p k x k first-total first-length
-  last-total : ℤ
+  first : Some p k x k first-length
   last-length : ℕ
-  last : Path p k k z last-total last-length
+  last : Some p k k z last-length
   shorter : first-length + last-length ≤ l
-  smaller : ((c : ℤ) (m : ℕ) → Path p k k k c m → pos zero ≤ℤ c) → (first-total +ℤ last-total) ≤ℤ s
+  smaller : ((c : ℤ) (m : ℕ) → Path p k k k c m → pos zero ≤ℤ c) → (first .total +ℤ last .total) ≤ℤ s
 
 module _ (p : Plan) (k : ℕ) where
   -- an edge to k before a path from k
   cut-here : {x z : ℕ} {v w : ℤ} {l : ℕ} → Given p x k v → Path p k k z w l ⊎ Parts p k k z w l → Parts p k x z (v +ℤ w) (suc l)
-  cut-here {x} {z} {v} {w} {l} e (inl t) = record {
-    first-total = v;
-    first-length = 1;
-    first = edge e;
-    last-total = w;
-    last-length = l;
-    last = t;
-    shorter = omega arith;
-    smaller = λ loop. ≤ℤ-refl (v +ℤ w);
-  }
+  cut-here {x} {z} {v} {w} {l} e (inl t) =
+      record { first-length = 1; first = some (edge e); last-length = l; last = some t; shorter = omega arith; smaller = λ loop. ≤ℤ-refl (v +ℤ w) }
   cut-here {x} {z} {v} {w} {l} e (inr q) = record {
-    first-total = v;
     first-length = 1;
-    first = edge e;
-    last-total = q .last-total;
+    first = some (edge e);
     last-length = q .last-length;
     last = q .last;
-    shorter = omega (arith, q .shorter, some-edge (q .first));
+    shorter = omega (arith, q .shorter, some-edge (q .first .path));
     smaller = λ loop.
-        let c : ℤ = q .first-total in
-        let d : ℤ = q .last-total in
-        let nonneg : pos zero ≤ℤ c = loop c (q .first-length) (q .first) in
+        let c : ℤ = q .first .total in
+        let d : ℤ = q .last .total in
+        let nonneg : pos zero ≤ℤ c = loop c (q .first-length) (q .first .path) in
         omega (ints, q .smaller loop, nonneg, plus c d, plus v d, plus v w);
   }
 
@@ -149,16 +84,14 @@ module _ (p : Plan) (k : ℕ) where
       → Path p k x z (v +ℤ w) (suc l) ⊎ Parts p k x z (v +ℤ w) (suc l)
   cut-later e hy (inl t) = inl (more e hy t)
   cut-later {v} {w} e hy (inr q) = inr (record {
-    first-total = v +ℤ q .first-total;
     first-length = suc (q .first-length);
-    first = more e hy (q .first);
-    last-total = q .last-total;
+    first = some (more e hy (q .first .path));
     last-length = q .last-length;
     last = q .last;
     shorter = omega (arith, q .shorter);
     smaller = λ loop.
-        let c : ℤ = q .first-total in
-        let d : ℤ = q .last-total in
+        let c : ℤ = q .first .total in
+        let d : ℤ = q .last .total in
         omega (ints, q .smaller loop, plus c d, plus v c, plus (v +ℤ c) d, plus v w);
   })
 
@@ -168,9 +101,7 @@ module _ (p : Plan) (k : ℕ) where
   cut {x} {z} (more {y} {v} {w} {l} e hy t) = by (ℕ-discrete y k) (cut t)
     where
       by : Dec (y ≡ k) → Path p k y z w l ⊎ Parts p k y z w l → Path p k x z (v +ℤ w) (suc l) ⊎ Parts p k x z (v +ℤ w) (suc l)
-      by (yes i) q =
-          inr (cut-here (subst (λ (a : ℕ). Given p x a v) i e)
-          (subst (λ (a : ℕ). Path p k a z w l ⊎ Parts p k a z w l) i q))
+      by (yes i) q = inr (cut-here (subst (λ (a : ℕ). Given p x a v) i e) (subst (λ (a : ℕ). Path p k a z w l ⊎ Parts p k a z w l) i q))
       by (no ne) q = cut-later e (omega (arith, hy)) q
 
 -- ---- a path shortened
@@ -196,18 +127,12 @@ way {p} {k} {x} i (more {y} {z} e hy t) =
     let q : Way p k x y z = way (inr hy) t in
     record { total = pos zero +ℤ q .total; walk = step (via i e) (q .walk) }
 
--- a path of some total, of l edges
-record Some (p : Plan) (k x z l : ℕ) : Type 0 where
-  total : ℤ
-  path : Path p k x z total l
-
 -- an edge before a trail that does not meet x
 as-path : {p : Plan} {k x a y z : ℕ} {w t : ℤ} {ps : List ℕ} → Given p a y w → (List·Memᴰ x (y ∷ ps) → ⊥)
     → Trail (Via p k x) y z t ps → Some p k a z (suc (length ps))
-as-path {w} e away stop = record { total = w; path = edge e }
-as-path {p} {k} {x} {y} {z} {w} e away (go {y = q} {ps} (via i f) t) =
-    let rest : Some p k y z (suc (length ps)) = as-path f (λ m. away (List·Memᴰ·tail m)) t in
-    record { total = w +ℤ rest .total; path = more e (⊎-elim (λ j. absurd (away (List·Memᴰ·head (sym j)))) (λ j. j) i) (rest .path) }
+as-path e away stop = some (edge e)
+as-path e away (go (via i f) t) =
+    some (more e (⊎-elim (λ j. absurd (away (List·Memᴰ·head (sym j)))) (λ j. j) i) (as-path f (λ m. away (List·Memᴰ·tail m)) t .path))
 
 -- two points joined by fewer than n edges over points below k
 record Brief (p : Plan) (k x z : ℕ) : Type 0 where
@@ -266,52 +191,34 @@ module _ (p : Plan) (g : Pointed p) where
         le = omega (ints, t .le, plus v w, plus v (t .total));
       })
 
-  -- an edge before a trail is a path
-  given-path : {a y z : ℕ} {v s : ℤ} {ps : List ℕ} → Given p a y v → Trail (Given p) y z s ps → Some p (p .points) a z (suc (length ps))
-  given-path {v} e stop = record { total = v; path = edge e }
-  given-path {y} {z} {v} e (go {ps} f q) =
-      let rest : Some p (p .points) y z (suc (length ps)) = given-path f q in
-      record { total = v +ℤ rest .total; path = more e (given-ends p g e .to) (rest .path) }
-
-  -- so a trail is empty or a path, of as many edges
-  given-brief : {x z : ℕ} {s : ℤ} {ps : List ℕ} → Trail (Given p) x z s ps → length ps < p .points → (x ≡ z) ⊎ Brief p (p .points) x z
-  given-brief stop f = inl refl
-  given-brief (go {ps} e q) f = inr (record { count = suc (length ps); few-edges = f; path = given-path e q })
-
 -- ---- a pass of joins
 
 module _ (p : Plan) (r : Ranges) (h : Coherent r) (g : Pointed p) (b : Weighted (r .weight) p) (few : p .points ≤ r .points) (t : List ℤ)
     (w : Walked (Given p) r (p .points) t) (given-below : (x y : ℕ) (w : ℤ) → Given p x y w → tableOf r (p .points) t x y ≤ᶜ num w)
     (diagonal : (x : ℕ) → x < p .points → tableOf r (p .points) t x x ≤ᶜ num (pos zero)) where
-  -- the table after the first k middles
+  -- the table after the first k middles, and its cells
   after : ℕ → List ℤ
   after k = iter (joinMiddle r (p .points)) k t
 
-  after-lowered : (k : ℕ) → k ≤ p .points → Lowered r (p .points) t (after k)
+  abbrev cell : ℕ → ℕ → ℕ → Cell
+  cell k x y = tableOf r (p .points) (after k) x y
+
+  abbrev Given-walks : List ℤ → Type 0
+  Given-walks = Walked (Given p) r (p .points)
+
+  pass : Puts (Given p) r (p .points) Given-walks Any (lowerCell r (p .points))
+  pass = cells (Given p) r h (p .points)
+
+  middle : (k : ℕ) → k < p .points → Keeps Given-walks r (p .points) (joinMiddle r (p .points) k)
+  middle = middle-keeps (Given p) r h (p .points)
+
+  after-taken : (k : ℕ) → k ≤ p .points → Taken Given-walks r (p .points) t (after k)
   unfolding after
-  after-lowered k hk =
-      iter-lowered r (p .points) k (joinMiddle r (p .points)) (λ i q. middle-lowers r h (p .points) i (omega arith)) t (w .sound)
+  after-taken k hk = keeps pass (each k (λ i q. one (middle i (omega arith)))) t w
 
   next-lowered : (k : ℕ) → k < p .points → Lowered r (p .points) (after k) (after (suc k))
   unfolding after
-  next-lowered k hk = middle-lowers r h (p .points) k hk (after k) (after-lowered k (omega arith) .sound)
-
-  end-lowered : (k : ℕ) → k ≤ p .points → Lowered r (p .points) (after k) (joinAll r (p .points) t)
-  unfolding after joinAll
-  end-lowered k hk = by (p .points) hk (omega arith)
-    where
-      same : (m : ℕ) → k ≡ m → Lowered r (p .points) (after k) (after m)
-      same m e =
-          subst (λ (j : ℕ). Lowered r (p .points) (after k) (after j)) e
-          (lowered-refl r (p .points) (after k) (after-lowered k hk .sound))
-
-      by : (m : ℕ) → k ≤ m → m ≤ p .points → Lowered r (p .points) (after k) (after m)
-      by zero hm le = same zero (omega arith)
-      by (suc m) hm le =
-          ⊎-elim (same (suc m))
-          (λ q.
-          lowered-trans r (p .points) (after k) (after m) (after (suc m)) (by m (le-of-suc-le-suc q) (omega arith)) (next-lowered m le))
-          (eq-or-lt-of-le hm)
+  next-lowered k hk = middle k hk (after k) (after-taken k (omega arith) .holds) .low
 
   -- the reach holds as many weights as a brief path has edges
   holds : (m : ℕ) → m < p .points → r .weight * m ≤ r .reach
@@ -320,12 +227,10 @@ module _ (p : Plan) (r : Ranges) (h : Coherent r) (g : Pointed p) (b : Weighted 
       le-trans (mul-le-mul-left (r .weight) k) (h .holds-walks)
 
   -- after k middles, no cell exceeds what is stored of the sum of two along k before
-  next-joined : (x k z : ℕ) → x < p .points → k < p .points → z < p .points
-      → tableOf r (p .points) (after (suc k)) x z
-      ≤ᶜ clamped (r .reach) (tableOf r (p .points) (after k) x k +ᶜ tableOf r (p .points) (after k) k z)
+  next-joined : (x k z : ℕ) → x < p .points → k < p .points → z < p .points → cell (suc k) x z ≤ᶜ clamped (r .reach) (cell k x k +ᶜ cell k k z)
   unfolding after
   next-joined x k z hx hk hz =
-      middle-joined r h (p .points) x k z hx hk hz (after k) (after-lowered k (omega arith) .sound)
+      middle-reached (Given p) r h (p .points) x k z hx hk hz (after k) (after-taken k (omega arith) .holds)
 
   -- ---- from above: a brief path over the middles so far has a cell in reach
 
@@ -333,46 +238,38 @@ module _ (p : Plan) (r : Ranges) (h : Coherent r) (g : Pointed p) (b : Weighted 
   abbrev Most : ℕ → Type 0
   Most k =
       (x z : ℕ) (s : ℤ) (l : ℕ) → x < p .points → z < p .points → r .weight * l ≤ r .reach → Path p k x z s l
-      → AtMost (tableOf r (p .points) (after k) x z) (pos (r .weight * l))
+      → AtMost (cell k x z) (pos (r .weight * l))
 
-  most-first : Most zero
+  path-most : (k : ℕ) → k ≤ p .points → Most k
   unfolding after
-  most-first x z s l hx hz room (edge e) =
-      raised (at-most (given-below x z s e)) (omega (ints, given-most b x z s e))
-  most-first x z s l hx hz room (more e hy q) = absurd (not-suc-le-zero hy)
-
-  most-next : (k : ℕ) → k < p .points → Most k → Most (suc k)
-  most-next k hk before x z s l hx hz room q = by (cut p k q)
+  path-most zero hk x z s l hx hz room (edge e) = raised (at-most (given-below x z s e)) (omega (ints, given-most b x z s e))
+  path-most zero hk x z s l hx hz room (more e hy q) = absurd (not-suc-le-zero hy)
+  path-most (suc k) hk x z s l hx hz room q = by (path-most k (omega arith)) (cut p k q)
     where
       part : (m : ℕ) → m ≤ l → r .weight * m ≤ r .reach
       part m hm = le-trans (mul-le-mul-left (r .weight) hm) room
 
-      by : Path p k x z s l ⊎ Parts p k x z s l → AtMost (tableOf r (p .points) (after (suc k)) x z) (pos (r .weight * l))
-      by (inl i) = under (next-lowered k hk .down x z hx hz) (before x z s l hx hz room i)
-      by (inr i) =
+      by : Most k → Path p k x z s l ⊎ Parts p k x z s l → AtMost (cell (suc k) x z) (pos (r .weight * l))
+      by before (inl i) = under (next-lowered k hk .down x z hx hz) (before x z s l hx hz room i)
+      by before (inr i) =
           let m : ℕ = i .first-length in
           let o : ℕ = i .last-length in
           let fits : r .weight * (m + o) ≤ r .weight * l = mul-le-mul-left (r .weight) (i .shorter) in
-          let one : AtMost (tableOf r (p .points) (after k) x k) (pos (r .weight * m)) =
-          before x k (i .first-total) m hx hk (part m (omega (arith, i .shorter))) (i .first) in
-          let two : AtMost (tableOf r (p .points) (after k) k z) (pos (r .weight * o)) =
-          before k z (i .last-total) o hk hz (part o (omega (arith, i .shorter))) (i .last) in
-          let both : AtMost (tableOf r (p .points) (after k) x k +ᶜ tableOf r (p .points) (after k) k z) (pos (r .weight * l)) =
+          let one : AtMost (cell k x k) (pos (r .weight * m)) =
+          before x k (i .first .total) m hx hk (part m (omega (arith, i .shorter))) (i .first .path) in
+          let two : AtMost (cell k k z) (pos (r .weight * o)) =
+          before k z (i .last .total) o hk hz (part o (omega (arith, i .shorter))) (i .last .path) in
+          let both : AtMost (cell k x k +ᶜ cell k k z) (pos (r .weight * l)) =
           raised (sum one two) (omega (ints, fits, plus (pos (r .weight * m)) (pos (r .weight * o)))) in
           under (next-joined x k z hx hk hz)
-          (stored-at-most (r .reach) (tableOf r (p .points) (after k) x k +ᶜ tableOf r (p .points) (after k) k z)
-          (omega (ints, neg (pos (r .reach)))) (omega (ints, room)) both)
-
-  path-most : (k : ℕ) → k ≤ p .points → Most k
-  path-most zero hk = most-first
-  path-most (suc k) hk = most-next k hk (path-most k (omega arith))
+          (stored-at-most (r .reach) (cell k x k +ᶜ cell k k z) (omega (ints, neg (pos (r .reach)))) (omega (ints, room)) both)
 
   -- so the cell of a pair joined over points below k is in reach
   brief-most : (k : ℕ) → k ≤ p .points → {x z : ℕ} → x < p .points → z < p .points → (x ≡ z) ⊎ Brief p k x z
-      → AtMost (tableOf r (p .points) (after k) x z) (pos (r .reach))
+      → AtMost (cell k x z) (pos (r .reach))
   brief-most k hk {x} {z} hx hz (inl e) =
-      subst (λ (a : ℕ). AtMost (tableOf r (p .points) (after k) x a) (pos (r .reach))) e
-      (raised (under (after-lowered k hk .down x x hx hx) (at-most (diagonal x hx))) (omega ints))
+      subst (λ (a : ℕ). AtMost (cell k x a) (pos (r .reach))) e
+      (raised (under (after-taken k hk .low .down x x hx hx) (at-most (diagonal x hx))) (omega ints))
   brief-most k hk {x} {z} hx hz (inr q) =
       let room : r .weight * q .count ≤ r .reach = holds (q .count) (q .few-edges) in
       raised (path-most k hk x z (q .path .total) (q .count) hx hz room (q .path .path)) (omega (ints, room))
@@ -383,61 +280,48 @@ module _ (p : Plan) (r : Ranges) (h : Coherent r) (g : Pointed p) (b : Weighted 
   unfolding after joinAll
   warshall-full {x} {z} hx hz k =
       let q : GivenTrail p x z = given-trail p g hx k in
-      brief-most (p .points) (omega arith) hx hz (given-brief p g (q .trail) (q .few))
+      brief-most (p .points) (omega arith) hx hz
+      (⊎-elim (λ e. inl (e .0)) (λ t. brief p g hx (t .path)) (walk-path p g (trail-walk (q .trail))))
 
   -- ---- from above, exactly: where nothing speaks against the plan, a path's cell is at most its total
 
   module _ (fair : Fair r (p .points) (joinAll r (p .points) t)) where
-    -- no cell was under the reach on the way
-    after-within : (k : ℕ) → k ≤ p .points → (x y : ℕ) → x < p .points → y < p .points → Within (r .reach) (tableOf r (p .points) (after k) x y)
-    after-within k hk x y hx hy =
-        by (tableOf r (p .points) (joinAll r (p .points) t) x y) (tableOf r (p .points) (after k) x y) (fair .within x y hx hy)
-        (after-lowered k hk .sound .stored x y hx hy) (end-lowered k hk .down x y hx hy)
-      where
-        by : (c d : Cell) → Within (r .reach) c → Stored (r .reach) d → c ≤ᶜ d → Within (r .reach) d
-        by c mark i j l = tt
-        by mark (num d) i j l = absurd l
-        by (num c) (num d) i j l = (omega (ints, i .0, l), j .1)
+    -- nothing spoke against it on the way
+    fair-until : (m : ℕ) → m ≤ p .points → Fair r (p .points) (after m) → (k : ℕ) → k ≤ m → Fair r (p .points) (after k)
+    fair-until zero hm f k hk = subst (λ (j : ℕ). Fair r (p .points) (after j)) (omega arith) f
+    fair-until (suc m) hm f k hk =
+        ⊎-elim (λ e. subst (λ (j : ℕ). Fair r (p .points) (after j)) (sym e) f)
+        (λ q. fair-until m (omega arith) (fair-before (after-taken m (omega arith) .low .sound) (next-lowered m hm) f) k (le-of-suc-le-suc q))
+        (eq-or-lt-of-le hk)
 
-    -- a path back to its first point has no total below 0
-    loop-least : (k : ℕ) → k ≤ p .points → (x : ℕ) (s : ℤ) → x < p .points → AtMost (tableOf r (p .points) (after k) x x) s
-        → pos zero ≤ℤ s
-    loop-least k hk x s hx a =
-        by-at-most {c = num (pos zero)} {w = s}
-        (under {c = num (pos zero)}
-        (≤ᶜ-trans (num (pos zero)) (tableOf r (p .points) (joinAll r (p .points) t) x x) (tableOf r (p .points) (after k) x x)
-        (fair .diagonal x hx) (end-lowered k hk .down x x hx hx))
-        a)
+    fair-after : (k : ℕ) → k ≤ p .points → Fair r (p .points) (after k)
+    unfolding after joinAll
+    fair-after k hk = fair-until (p .points) (omega arith) fair k hk
 
     -- after k middles a path's cell is at most its total
     abbrev Exact : ℕ → Type 0
     Exact k =
-        (x z : ℕ) (s : ℤ) (l : ℕ) → x < p .points → z < p .points → Path p k x z s l → AtMost (tableOf r (p .points) (after k) x z) s
-
-    exact-first : Exact zero
-    unfolding after
-    exact-first x z s l hx hz (edge e) = at-most (given-below x z s e)
-    exact-first x z s l hx hz (more e hy q) = absurd (not-suc-le-zero hy)
-
-    exact-next : (k : ℕ) → k < p .points → Exact k → Exact (suc k)
-    exact-next k hk before x z s l hx hz q = by (cut p k q)
-      where
-        by : Path p k x z s l ⊎ Parts p k x z s l → AtMost (tableOf r (p .points) (after (suc k)) x z) s
-        by (inl i) = under (next-lowered k hk .down x z hx hz) (before x z s l hx hz i)
-        by (inr i) =
-            let d : Cell = tableOf r (p .points) (after k) x k +ᶜ tableOf r (p .points) (after k) k z in
-            let both : AtMost d (i .first-total +ℤ i .last-total) =
-            sum (before x k (i .first-total) (i .first-length) hx hk (i .first)) (before k z (i .last-total) (i .last-length) hk hz (i .last)) in
-            raised
-            (under
-            (exact (r .reach) (tableOf r (p .points) (after (suc k)) x z) d (after-within (suc k) hk x z hx hz)
-            (λ c e. brief-most (suc k) hk hx hz (brief p g hx q)) (next-joined x k z hx hk hz))
-            both)
-            (i .smaller (λ c m o. loop-least k (omega arith) k c hk (before k k c m hk hk o)))
+        (x z : ℕ) (s : ℤ) (l : ℕ) → x < p .points → z < p .points → Path p k x z s l → AtMost (cell k x z) s
 
     path-exact : (k : ℕ) → k ≤ p .points → Exact k
-    path-exact zero hk = exact-first
-    path-exact (suc k) hk = exact-next k hk (path-exact k (omega arith))
+    unfolding after
+    path-exact zero hk x z s l hx hz (edge e) = at-most (given-below x z s e)
+    path-exact zero hk x z s l hx hz (more e hy q) = absurd (not-suc-le-zero hy)
+    path-exact (suc k) hk x z s l hx hz q = by (path-exact k (omega arith)) (cut p k q)
+      where
+        by : Exact k → Path p k x z s l ⊎ Parts p k x z s l → AtMost (cell (suc k) x z) s
+        by before (inl i) = under (next-lowered k hk .down x z hx hz) (before x z s l hx hz i)
+        by before (inr i) =
+            let d : Cell = cell k x k +ᶜ cell k k z in
+            let both : AtMost d (i .first .total +ℤ i .last .total) =
+            sum (before x k (i .first .total) (i .first-length) hx hk (i .first .path))
+            (before k z (i .last .total) (i .last-length) hk hz (i .last .path)) in
+            let exactly : cell (suc k) x z ≤ᶜ d =
+            exact (r .reach) (cell (suc k) x z) d (fair-after (suc k) hk .within x z hx hz) (λ c e. brief-most (suc k) hk hx hz (brief p g hx q))
+            (next-joined x k z hx hk hz) in
+            raised (under exactly both)
+            (i .smaller (λ c m o.
+            by-at-most {c = num (pos zero)} (under {c = num (pos zero)} (fair-after k (omega arith) .diagonal k hk) (before k k c m hk hk o))))
 
     -- no cell exceeds the total of a walk of given edges
     pub walk-exact : {x z : ℕ} {s : ℤ} → x < p .points → z < p .points → Walk (Given p) x z s
@@ -445,12 +329,8 @@ module _ (p : Plan) (r : Ranges) (h : Coherent r) (g : Pointed p) (b : Weighted 
     unfolding after joinAll
     walk-exact {x} {z} {s} hx hz k = by (walk-path p g k)
       where
-        by : ((x ≡ z) × (s ≡ pos zero)) ⊎ Path≤ p x z s → tableOf r (p .points) (after (p .points)) x z ≤ᶜ num s
-        by (inl e) =
-            subst (λ (a : ℕ). tableOf r (p .points) (after (p .points)) x a ≤ᶜ num s) (e .0)
-            (subst (λ (c : ℤ). tableOf r (p .points) (after (p .points)) x x ≤ᶜ num c) (sym (e .1))
-            (≤ᶜ-trans (tableOf r (p .points) (after (p .points)) x x) (tableOf r (p .points) t x x) (num (pos zero))
-            (after-lowered (p .points) (omega arith) .down x x hx hx) (diagonal x hx)))
+        by : ((x ≡ z) × (s ≡ pos zero)) ⊎ Path≤ p x z s → cell (p .points) x z ≤ᶜ num s
+        by (inl e) = rw (← e .0, e .1) (lowered-below (after-taken (p .points) (omega arith) .low) x x hx hx (num (pos zero)) (diagonal x hx))
         by (inr q) = by-at-most (raised (path-exact (p .points) (omega arith) x z (q .total) (q .count) hx hz (q .path)) (q .le))
 
   -- and where nothing speaks against the plan, no cell exceeds the sum of two along a middle point
@@ -458,18 +338,14 @@ module _ (p : Plan) (r : Ranges) (h : Coherent r) (g : Pointed p) (b : Weighted 
       → tableOf r (p .points) (joinAll r (p .points) t) x z
       ≤ᶜ (tableOf r (p .points) (joinAll r (p .points) t) x y +ᶜ tableOf r (p .points) (joinAll r (p .points) t) y z)
   warshall-joined fair x y z hx hy hz =
-      by (tableOf r (p .points) (joinAll r (p .points) t) x y) (tableOf r (p .points) (joinAll r (p .points) t) y z)
-      (joined .has x y hx hy) (joined .has y z hy hz)
+      by (at x y +ᶜ at y z) (has-sum (Given p) x y z (at x y) (at y z) (joined .has x y hx hy) (joined .has y z hy hz))
     where
       joined : Walked (Given p) r (p .points) (joinAll r (p .points) t)
-      joined = joins-walked (Given p) r h (p .points) t w
+      joined = joins-keep (Given p) r h (p .points) t w .holds
 
-      end : Cell
-      end = tableOf r (p .points) (joinAll r (p .points) t) x z
+      at : ℕ → ℕ → Cell
+      at = tableOf r (p .points) (joinAll r (p .points) t)
 
-      by : (c d : Cell) → Has (Given p) x y c → Has (Given p) y z d → end ≤ᶜ (c +ᶜ d)
-      by mark d i j = ≤ᶜ-mark end
-      by (num c) mark i j = ≤ᶜ-mark end
-      by (num c) (num d) i j =
-          ≤ᶜ-trans end (num (i .total +ℤ j .total)) (num (c +ℤ d)) (walk-exact fair hx hz (append (i .walk) (j .walk)))
-          (plus-mono (i .le) (j .le))
+      by : (d : Cell) → Has (Given p) x z d → at x z ≤ᶜ d
+      by mark k = ≤ᶜ-mark (at x z)
+      by (num d) k = ≤ᶜ-trans (at x z) (num (k .total)) (num d) (walk-exact fair hx hz (k .walk)) (k .le)

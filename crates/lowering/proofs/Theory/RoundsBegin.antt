@@ -1,6 +1,6 @@
 -- Where the rounds begin: the strict table of the given edges after one pass of joins, and the open one, a copy of it with every lower-case edge taken.
 -- Over any coherent ranges. Assumes nothing.
-use mathlib.Core.Path.{_≡_, ap, subst, _∙_}
+use mathlib.Core.Path.{_≡_, ap, _∙_}
 use mathlib.Core.List.{List}
 use Prim.Native.Nat.{ℕ, zero, _+_, _*_, _≤_, _<_}
 use native.Mathlib.Omega.{arith}
@@ -11,32 +11,26 @@ use Rattle.rules.specs.Plan.{Limit, Link, Plan, Ranges}
 use Rattle.rules.proofs.Coherence.{Coherent}
 use Rattle.rules.specs.Edges as edges
 use Rattle.rules.specs.Edges.{Given, Derivable, Open}
-use Rattle.rules.specs.Cells.{Cell, mark, num, _≤ᶜ_, cellOf, tableOf}
+use Rattle.rules.specs.Cells.{mark, num, _≤ᶜ_, cellOf, tableOf}
 use Rattle.rules.specs.Calls.{Kept}
-use Rattle.rules.proofs.Walks.{single, replaced}
 use Rattle.rules.proofs.Points.{Pointed, Weighted, Ends, given-ends}
 use Rattle.cell.specs.Steps.{clamped}
-use Rattle.cell.proofs.StoredCells.{≤ᶜ-trans, ≤ᶜ-antisym}
+use Rattle.cell.proofs.StoredCells.{≤ᶜ-antisym}
 use Rattle.lowering.specs.Table.{Sound}
 use Rattle.lowering.specs.Fair.{Fair}
 use Rattle.lowering.specs.Sweep.{joinAll, firstStrict, firstOpen}
 use Rattle.lowering.specs.Spread.{Copied, caseEdges}
-use Rattle.lowering.proofs.Theory.LoweredTables.{Lowered}
-use Rattle.lowering.proofs.Theory.SweepSteps.{joins-lower}
-use Rattle.lowering.proofs.Theory.WalksKept.{Has, has-open, Walked, joins-walked}
-use Rattle.lowering.proofs.Theory.SpreadSteps.{case-edges-lowered}
-use Rattle.lowering.proofs.Theory.StillSweep.{AllLinks}
+use Rattle.lowering.proofs.Theory.LoweredTables.{lowered-below}
+use Rattle.lowering.proofs.Theory.WalksKept.{has-in, has-open, Walked}
+use Rattle.lowering.proofs.Theory.StepsTaken.{Taken, keeps, reached, rule-reaches}
+use Rattle.lowering.proofs.Theory.CellRules.{case-rule}
+use Rattle.lowering.proofs.Theory.SweepsTaken.{joins-keep}
+use Rattle.lowering.proofs.Theory.StillSweep.{given-stays, AllLinks}
 use Rattle.lowering.proofs.Theory.FirstTables.{AllLimits}
 use Rattle.lowering.proofs.Theory.SweepsEnd.{Going, first-given, first-going, first-strict-kept, lowered-kept, kept-trans}
 use Rattle.lowering.proofs.Theory.OneJoinPass.{warshall-full, warshall-joined}
 use Rattle.lowering.proofs.Theory.SpreadKeepsJoined.{Shut, stored-under}
-use Rattle.lowering.proofs.Theory.RoundsEnd.{Carried, Rounds, cases-carried, cases-reach}
-
--- a walk of given edges is one of derivable edges
-has-derivable : (p : Plan) (x y : ℕ) (c : Cell) → Has (Given p) x y c → Has (Derivable p) x y c
-has-derivable p x y mark h = tt
-has-derivable p x y (num c) h =
-    record { total = h .total; walk = replaced (λ x y w e. single (edges.given e)) (h .walk); le = h .le }
+use Rattle.lowering.proofs.Theory.RoundsEnd.{Carried, Rounds, open-edges, case-steps}
 
 -- a copy past the room is as it was
 pub copied-kept : {m : ℕ} {t u v : List ℤ} → Copied m t u v → Kept m u v
@@ -60,55 +54,44 @@ copied-sound r n c room s =
 module _ (p : Plan) (r : Ranges) (h : Coherent r) (g : Pointed p) (b : Weighted (r .weight) p) (few : p .points ≤ r .points) (limit : ℕ → Limit)
     (limits : ℕ) (al : AllLimits p limit limits) (link : ℕ → Link) (links : ℕ) (ak : AllLinks p link links) (t : List ℤ)
     (room : p .points * p .points ≤ length t) where
-  first : List ℤ
+  abbrev first : List ℤ
   first = firstStrict r (p .points) limit limits link links t
 
-  joined : List ℤ
+  abbrev joined : List ℤ
   joined = joinAll r (p .points) first
 
   walked : Walked (Given p) r (p .points) first
-  unfolding first
-  walked = first-given p r h g b limit limits al link links ak t room
+  walked = first-given p r h g b limit limits al link links ak t room .holds
 
   going : Going p r first (firstOpen r (p .points) t)
-  unfolding first
   going = first-going p r h g b limit limits al link links ak t t room room
 
-  low : Lowered r (p .points) first joined
-  unfolding joined
-  low = joins-lower r h (p .points) first (walked .sound)
+  pass : Taken (Walked (Given p) r (p .points)) r (p .points) first joined
+  pass = joins-keep (Given p) r h (p .points) first walked
 
   -- past the room it is as it was
   pub joined-kept : Kept (p .points * p .points) t (joinAll r (p .points) (firstStrict r (p .points) limit limits link links t))
-  unfolding joined first
-  joined-kept = kept-trans (first-strict-kept p r h g b limit limits al link links ak t room) (lowered-kept low)
+  joined-kept = kept-trans (first-strict-kept p r h g b limit limits al link links ak t room) (lowered-kept (pass .low))
 
   -- under every given edge
   pub joined-given : (x y : ℕ) (w : ℤ) → Given p x y w
       → tableOf r (p .points) (joinAll r (p .points) (firstStrict r (p .points) limit limits link links t)) x y ≤ᶜ num w
-  unfolding joined first
-  joined-given x y w e =
-      let q : Ends p x y = given-ends p g e in
-      ≤ᶜ-trans (tableOf r (p .points) joined x y) (tableOf r (p .points) first x y) (num w) (low .down x y (q .from) (q .to)) (going .given-below x y w e)
+  joined-given = given-stays g (pass .low) (going .given-below)
 
   -- and as rounds carry it
   pub joined-carried : Carried (Derivable p) p r (joinAll r (p .points) (firstStrict r (p .points) limit limits link links t))
-  unfolding joined first
   joined-carried =
-      let w : Walked (Given p) r (p .points) joined = joins-walked (Given p) r h (p .points) first walked in
       record {
         walks = record {
-          sound = w .sound;
-          has = λ x y hx hy. has-derivable p x y (tableOf r (p .points) joined x y) (w .has x y hx hy);
+          sound = pass .low .sound;
+          has = λ x y hx hy. has-in (λ x y w e. edges.given e) x y (tableOf r (p .points) joined x y) (pass .holds .has x y hx hy);
         };
         full = λ x z s hx hz k. warshall-full p r h g b few first walked (going .given-below) (going .strict-diagonal) hx hz k;
         shut = λ f.
             record {
               zeros = λ x hx.
                   ≤ᶜ-antisym (tableOf r (p .points) joined x x) (num (pos zero))
-                  (≤ᶜ-trans (tableOf r (p .points) joined x x) (tableOf r (p .points) first x x) (num (pos zero)) (low .down x x hx hx)
-                  (going .strict-diagonal x hx))
-                  (f .diagonal x hx);
+                  (lowered-below (pass .low) x x hx hx (num (pos zero)) (going .strict-diagonal x hx)) (f .diagonal x hx);
               join = warshall-joined p r h g b few first walked (going .given-below) (going .strict-diagonal) f;
             };
       }
@@ -119,7 +102,7 @@ module _ (p : Plan) (r : Ranges) (h : Coherent r) (g : Pointed p) (link : ℕ �
     (s : Carried (Derivable p) p r strict) (given : (x y : ℕ) (w : ℤ) → Given p x y w → tableOf r (p .points) strict x y ≤ᶜ num w)
     (c : Copied (p .points * p .points) strict u v) (room : p .points * p .points ≤ length u) where
   cell : (x y : ℕ) → x < p .points → y < p .points → tableOf r (p .points) v x y ≡ tableOf r (p .points) strict x y
-  cell x y hx hy = copied-cell r (p .points) c x y hx hy
+  cell = copied-cell r (p .points) c
 
   fair-copied : Fair r (p .points) v → Fair r (p .points) strict
   fair-copied f =
@@ -133,8 +116,7 @@ module _ (p : Plan) (r : Ranges) (h : Coherent r) (g : Pointed p) (link : ℕ �
       record {
         walks = record {
           sound = copied-sound r (p .points) c room (s .walks .sound);
-          has = λ x y hx hy.
-              rw (cell x y hx hy) (has-open p x y (tableOf r (p .points) strict x y) (s .walks .has x y hx hy));
+          has = λ x y hx hy. rw (cell x y hx hy) (has-open p x y (tableOf r (p .points) strict x y) (s .walks .has x y hx hy));
         };
         full = λ x z w hx hz k. rw (cell x z hx hz) (s .full x z w hx hz k);
         shut = λ f.
@@ -145,34 +127,30 @@ module _ (p : Plan) (r : Ranges) (h : Coherent r) (g : Pointed p) (link : ℕ �
             };
       }
 
-  cases-low : Lowered r (p .points) v (caseEdges r (p .points) link count v)
-  cases-low = case-edges-lowered r h (p .points) link count (l .links .points) v (copied-carried .walks .sound)
+  -- with every lower-case edge taken
+  pub cases-taken : Taken (Carried (Open p) p r) r (p .points) v (caseEdges r (p .points) link count v)
+  cases-taken = keeps (open-edges p r h) (case-steps p r h link count (l .links)) v copied-carried
 
-  -- under the strict table
-  cases-under : (x y : ℕ) → x < p .points → y < p .points
-      → tableOf r (p .points) (caseEdges r (p .points) link count v) x y ≤ᶜ tableOf r (p .points) strict x y
-  cases-under x y hx hy =
-      subst (λ (d : Cell). tableOf r (p .points) (caseEdges r (p .points) link count v) x y ≤ᶜ d) (cell x y hx hy) (cases-low .down x y hx hy)
-
-  -- and under what is stored of it
+  -- it is under what is stored of the strict table
   cases-stored : (x y : ℕ) → x < p .points → y < p .points
       → tableOf r (p .points) (caseEdges r (p .points) link count v) x y ≤ᶜ clamped (r .reach) (tableOf r (p .points) strict x y)
   cases-stored x y hx hy =
       stored-under (r .reach) (tableOf r (p .points) (caseEdges r (p .points) link count v) x y) (tableOf r (p .points) strict x y)
-      (cases-low .sound .stored x y hx hy) (cases-under x y hx hy)
+      (cases-taken .low .sound .stored x y hx hy) (rw (cell x y hx hy) at (cases-taken .low .down x y hx hy))
 
   -- both stand as before a round
   pub rounds-first : Rounds p r link count strict (caseEdges r (p .points) link count v)
+  unfolding case-steps
   rounds-first =
       record {
         strict-carried = s;
-        open-carried = cases-carried p r h link count (l .links) v copied-carried;
+        open-carried = cases-taken .holds;
         strict-given = given;
-        open-given = λ x y w e.
-            let q : Ends p x y = given-ends p g e in
-            ≤ᶜ-trans (tableOf r (p .points) (caseEdges r (p .points) link count v) x y) (tableOf r (p .points) strict x y) (num w)
-            (cases-under x y (q .from) (q .to)) (given x y w e);
-        open-cases = λ f i hi. cases-reach p r h link count (l .links) v copied-carried f i hi;
+        open-given =
+            given-stays g (cases-taken .low) (λ x y w e. let q : Ends p x y = given-ends p g e in rw (cell x y (q .from) (q .to)) (given x y w e));
+        open-cases = λ f i hi.
+            let o = case-rule p r link count (l .links) i hi in
+            reached (open-edges p r h) o (case-steps p r h link count (l .links)) (i, hi, rule-reaches (open-edges p r h) o) v copied-carried f;
         open-lower = λ f i j hi hj. cases-stored (link i .act) (link j .con) (l .links .points .act-below i hi) (l .links .points .con-below j hj);
         open-upper = λ f x i hx hi. cases-stored x (link i .act) hx (l .links .points .act-below i hi);
       }

@@ -1,20 +1,15 @@
--- Each part of a sweep lowers, and where it leaves the table as it was, its part of closed holds of stored cells. Over any coherent ranges.
--- Assumes nothing.
-use mathlib.Core.Path.{_≡_, refl}
-use mathlib.Core.Logic.{_≢_}
-use mathlib.Core.Bool.{Bool, true, false, cond}
+-- Each part of a sweep lowers a table of stored cells. Over any coherent ranges. Assumes nothing.
 use mathlib.Core.List.{List}
 use Prim.Native.Nat.{ℕ, zero, _<_}
 use native.Mathlib.Omega.{arith}
-use lib.Dec.{eqb, eqb→eq}
+use lib.Dec.{eqb}
 use lib.IntN.{ℤ, pos, negℤ}
 use Rattle.rules.specs.Plan.{Limit, Link, Ranges}
 use Rattle.rules.proofs.Coherence.{Coherent}
-use Rattle.rules.specs.Cells.{Cell, num, _+ᶜ_, _≤ᶜ_, lowered, uppered, tableOf}
-use Rattle.cell.specs.Steps.{clamped}
+use Rattle.rules.specs.Cells.{Cell, num, _+ᶜ_, lowered, uppered, tableOf}
 use Rattle.lowering.specs.Sweep.{lowerCell, joinCell, joinRow, joinMiddle, joinAll, lowerPair, lowerLink, lowerAll, upperCell, upperPoint, upperAll, openCell, openRow, openAll, caseLink, caseAll, sweepStrict, sweepOpen, limitCell, linkEdges}
 use Rattle.lowering.specs.Table.{Sound}
-use Rattle.lowering.proofs.Theory.LoweredTables.{Lowered, Lowers, lowered-refl, lowered-trans, cell-lowered, cell-fixed, iter-lowered, iter-fixed, both-fixed}
+use Rattle.lowering.proofs.Theory.LoweredTables.{Lowered, Lowers, lowered-refl, lowered-then, by-test, cell-lowered, iter-lowered}
 
 -- the links name points of the table
 pub record LinkPoints (n : ℕ) (link : ℕ → Link) (count : ℕ) : Type 0 where
@@ -40,45 +35,15 @@ module _ (r : Ranges) (h : Coherent r) (n : ℕ) where
   unfolding joinAll
   joins-lower t s = iter-lowered r n n (joinMiddle r n) middle-lowers t s
 
-  pub joins-fixed : (t : List ℤ) → Sound r n t → joinAll r n t ≡ t → (x y z : ℕ) → x < n → y < n → z < n
-      → tableOf r n t x z ≤ᶜ clamped (r .reach) (tableOf r n t x y +ᶜ tableOf r n t y z)
-  unfolding joinAll joinMiddle joinRow joinCell
-  joins-fixed t s e x y z hx hy hz =
-      let middle : joinMiddle r n y t ≡ t = iter-fixed r n n (joinMiddle r n) middle-lowers t s e y hy in
-      let row : joinRow r n y x t ≡ t = iter-fixed r n n (joinRow r n y) (row-lowers y) t s middle x hx in
-      let a : Cell = tableOf r n t x y in
-      let cell : joinCell r n y x a z t ≡ t = iter-fixed r n n (joinCell r n y x a) (cell-lowers y x a hx) t s row z hz in
-      cell-fixed r h n x z (a +ᶜ tableOf r n t y z) t hx hz s cell
-
   -- ---- Lower
-
-  pair-lowered : (k j : Link) → k .act < n → j .con < n → (t : List ℤ) → Sound r n t → Lowered r n t (lowerPair r n k j t)
-  unfolding lowerPair
-  pair-lowered k j hk hj t s = by (eqb (j .con) (k .con))
-    where
-      u : List ℤ
-      u = lowerCell r n (k .act) (j .con) (lowered k j (tableOf r n t (k .con) (j .con))) t
-
-      by : (b : Bool) → Lowered r n t (cond b t u)
-      by true = lowered-refl r n t s
-      by false = cell-lowered r h n (k .act) (j .con) (lowered k j (tableOf r n t (k .con) (j .con))) t hk hj s
-
-  pair-fixed : (k j : Link) → k .act < n → j .con < n → j .con ≢ k .con → (t : List ℤ) → Sound r n t → lowerPair r n k j t ≡ t
-      → tableOf r n t (k .act) (j .con) ≤ᶜ clamped (r .reach) (lowered k j (tableOf r n t (k .con) (j .con)))
-  unfolding lowerPair
-  pair-fixed k j hk hj ne t s e = by (eqb (j .con) (k .con)) refl e
-    where
-      c : Cell
-      c = lowered k j (tableOf r n t (k .con) (j .con))
-
-      by : (b : Bool) → eqb (j .con) (k .con) ≡ b → cond b t (lowerCell r n (k .act) (j .con) c t) ≡ t
-          → tableOf r n t (k .act) (j .con) ≤ᶜ clamped (r .reach) c
-      by true i q = absurd (ne (eqb→eq (j .con) (k .con) (rw i tt)))
-      by false i q = cell-fixed r h n (k .act) (j .con) c t hk hj s q
 
   module _ (link : ℕ → Link) (count : ℕ) (p : LinkPoints n link count) where
     pub pair-lowers : (i : ℕ) → i < count → Lowers r n count (λ j. lowerPair r n (link i) (link j))
-    pair-lowers i hi j hj t s = pair-lowered (link i) (link j) (p .act-below i hi) (p .con-below j hj) t s
+    unfolding lowerPair
+    pair-lowers i hi j hj t s =
+        by-test (Lowered r n t) (eqb (link j .con) (link i .con)) (λ e. lowered-refl r n t s)
+        (λ e. cell-lowered r h n (link i .act) (link j .con) (lowered (link i) (link j) (tableOf r n t (link i .con) (link j .con))) t (p .act-below i hi)
+        (p .con-below j hj) s)
 
     pub link-lowers : Lowers r n count (λ i. lowerLink r n link count (link i))
     unfolding lowerLink
@@ -87,18 +52,6 @@ module _ (r : Ranges) (h : Coherent r) (n : ℕ) where
     pub lower-lowers : (t : List ℤ) → Sound r n t → Lowered r n t (lowerAll r n link count t)
     unfolding lowerAll
     lower-lowers t s = iter-lowered r n count (λ i. lowerLink r n link count (link i)) link-lowers t s
-
-    pub lower-fixed : (t : List ℤ) → Sound r n t → lowerAll r n link count t ≡ t → (i j : ℕ) → i < count → j < count
-        → link j .con ≢ link i .con
-        → tableOf r n t (link i .act) (link j .con)
-        ≤ᶜ clamped (r .reach) (lowered (link i) (link j) (tableOf r n t (link i .con) (link j .con)))
-    unfolding lowerAll lowerLink
-    lower-fixed t s e i j hi hj ne =
-        let one : lowerLink r n link count (link i) t ≡ t =
-        iter-fixed r n count (λ i. lowerLink r n link count (link i)) link-lowers t s e i hi in
-        let pair : lowerPair r n (link i) (link j) t ≡ t =
-        iter-fixed r n count (λ j. lowerPair r n (link i) (link j)) (pair-lowers i hi) t s one j hj in
-        pair-fixed (link i) (link j) (p .act-below i hi) (p .con-below j hj) ne t s pair
 
     -- ---- Upper
 
@@ -115,16 +68,6 @@ module _ (r : Ranges) (h : Coherent r) (n : ℕ) where
     unfolding upperAll
     upper-lowers t s = iter-lowered r n n (upperPoint r n link count) upper-point-lowers t s
 
-    pub upper-fixed : (t : List ℤ) → Sound r n t → upperAll r n link count t ≡ t → (x i : ℕ) → x < n → i < count
-        → tableOf r n t x (link i .act) ≤ᶜ clamped (r .reach) (uppered (link i) (tableOf r n t x (link i .con)))
-    unfolding upperAll upperPoint upperCell
-    upper-fixed t s e x i hx hi =
-        let point : upperPoint r n link count x t ≡ t =
-        iter-fixed r n n (upperPoint r n link count) upper-point-lowers t s e x hx in
-        let cell : upperCell r n x (link i) t ≡ t =
-        iter-fixed r n count (λ i. upperCell r n x (link i)) (upper-cell-lowers x hx) t s point i hi in
-        cell-fixed r h n x (link i .act) (uppered (link i) (tableOf r n t x (link i .con))) t hx (p .act-below i hi) s cell
-
     -- ---- lower-case edges
 
     pub case-link-lowers : Lowers r n count (λ i. caseLink r n (link i))
@@ -135,13 +78,6 @@ module _ (r : Ranges) (h : Coherent r) (n : ℕ) where
     pub case-lowers : (t : List ℤ) → Sound r n t → Lowered r n t (caseAll r n link count t)
     unfolding caseAll
     case-lowers t s = iter-lowered r n count (λ i. caseLink r n (link i)) case-link-lowers t s
-
-    pub case-fixed : (t : List ℤ) → Sound r n t → caseAll r n link count t ≡ t → (i : ℕ) → i < count
-        → tableOf r n t (link i .act) (link i .con) ≤ᶜ clamped (r .reach) (num (pos (link i .short)))
-    unfolding caseAll caseLink
-    case-fixed t s e i hi =
-        let one : caseLink r n (link i) t ≡ t = iter-fixed r n count (λ i. caseLink r n (link i)) case-link-lowers t s e i hi in
-        cell-fixed r h n (link i .act) (link i .con) (num (pos (link i .short))) t (p .act-below i hi) (p .con-below i hi) s one
 
   -- ---- the open table under the strict one
 
@@ -156,15 +92,6 @@ module _ (r : Ranges) (h : Coherent r) (n : ℕ) where
   pub open-lowers : (strict t : List ℤ) → Sound r n t → Lowered r n t (openAll r n strict t)
   unfolding openAll
   open-lowers strict t s = iter-lowered r n n (openRow r n strict) (open-row-lowers strict) t s
-
-  pub open-fixed : (strict t : List ℤ) → Sound r n t → openAll r n strict t ≡ t → (x y : ℕ) → x < n → y < n
-      → tableOf r n t x y ≤ᶜ clamped (r .reach) (tableOf r n strict x y)
-  unfolding openAll openRow openCell
-  open-fixed strict t s e x y hx hy =
-      let row : openRow r n strict x t ≡ t = iter-fixed r n n (openRow r n strict) (open-row-lowers strict) t s e x hx in
-      let cell : openCell r n strict x y t ≡ t =
-      iter-fixed r n n (openCell r n strict x) (open-cell-lowers strict x hx) t s row y hy in
-      cell-fixed r h n x y (tableOf r n strict x y) t hx hy s cell
 
   -- ---- first tables
 
@@ -184,11 +111,9 @@ module _ (r : Ranges) (h : Coherent r) (n : ℕ) where
   unfolding linkEdges
   edges-lowers link count p i hi t s =
       let k : Link = link i in
-      let u : List ℤ = lowerCell r n (k .act) (k .con) (num (pos (k .long))) t in
-      let first : Lowered r n t u =
-      cell-lowered r h n (k .act) (k .con) (num (pos (k .long))) t (p .act-below i hi) (p .con-below i hi) s in
-      lowered-trans r n t u (linkEdges r n k t) first
-      (cell-lowered r h n (k .con) (k .act) (num (negℤ (pos (k .short)))) u (p .con-below i hi) (p .act-below i hi) (first .sound))
+      lowered-then (cell-lowered r h n (k .act) (k .con) (num (pos (k .long))) t (p .act-below i hi) (p .con-below i hi) s)
+      (cell-lowered r h n (k .con) (k .act) (num (negℤ (pos (k .short)))) (lowerCell r n (k .act) (k .con) (num (pos (k .long))) t) (p .con-below i hi)
+      (p .act-below i hi))
 
   -- ---- a whole sweep
 
@@ -196,49 +121,11 @@ module _ (r : Ranges) (h : Coherent r) (n : ℕ) where
     pub strict-lowers : (t : List ℤ) → Sound r n t → Lowered r n t (sweepStrict r n link count t)
     unfolding sweepStrict
     strict-lowers t s =
-        let a : Lowered r n t (joinAll r n t) = joins-lower t s in
         let u : List ℤ = joinAll r n t in
-        let b : Lowered r n u (lowerAll r n link count u) = lower-lowers link count p u (a .sound) in
-        let v : List ℤ = lowerAll r n link count u in
-        lowered-trans r n t u (upperAll r n link count v) a
-        (lowered-trans r n u v (upperAll r n link count v) b (upper-lowers link count p v (b .sound)))
-
-    -- a sweep that leaves the strict table as it was: so did joins, Lower and Upper
-    pub strict-fixed : (t : List ℤ) → Sound r n t → sweepStrict r n link count t ≡ t
-        → (joinAll r n t ≡ t) × (lowerAll r n link count t ≡ t) × (upperAll r n link count t ≡ t)
-    unfolding sweepStrict
-    strict-fixed t s e =
-        let a : Lowered r n t (joinAll r n t) = joins-lower t s in
-        let u : List ℤ = joinAll r n t in
-        let b : Lowered r n u (lowerAll r n link count u) = lower-lowers link count p u (a .sound) in
-        let v : List ℤ = lowerAll r n link count u in
-        let c : Lowered r n v (upperAll r n link count v) = upper-lowers link count p v (b .sound) in
-        let first : (v ≡ t) × (upperAll r n link count t ≡ t) =
-        both-fixed r n (λ (w : List ℤ). lowerAll r n link count (joinAll r n w)) (upperAll r n link count) t (lowered-trans r n t u v a b) c e in
-        let second : (u ≡ t) × (lowerAll r n link count t ≡ t) =
-        both-fixed r n (joinAll r n) (lowerAll r n link count) t a b (first .0) in
-        (second .0, second .1, first .1)
+        lowered-then (lowered-then (joins-lower t s) (lower-lowers link count p u)) (upper-lowers link count p (lowerAll r n link count u))
 
     pub open-sweep-lowers : (strict t : List ℤ) → Sound r n t → Lowered r n t (sweepOpen r n link count strict t)
     unfolding sweepOpen
     open-sweep-lowers strict t s =
-        let a : Lowered r n t (openAll r n strict t) = open-lowers strict t s in
         let u : List ℤ = openAll r n strict t in
-        let b : Lowered r n u (caseAll r n link count u) = case-lowers link count p u (a .sound) in
-        let v : List ℤ = caseAll r n link count u in
-        lowered-trans r n t u (joinAll r n v) a (lowered-trans r n u v (joinAll r n v) b (joins-lower v (b .sound)))
-
-    pub open-sweep-fixed : (strict t : List ℤ) → Sound r n t → sweepOpen r n link count strict t ≡ t
-        → (openAll r n strict t ≡ t) × (caseAll r n link count t ≡ t) × (joinAll r n t ≡ t)
-    unfolding sweepOpen
-    open-sweep-fixed strict t s e =
-        let a : Lowered r n t (openAll r n strict t) = open-lowers strict t s in
-        let u : List ℤ = openAll r n strict t in
-        let b : Lowered r n u (caseAll r n link count u) = case-lowers link count p u (a .sound) in
-        let v : List ℤ = caseAll r n link count u in
-        let c : Lowered r n v (joinAll r n v) = joins-lower v (b .sound) in
-        let first : (v ≡ t) × (joinAll r n t ≡ t) =
-        both-fixed r n (λ (w : List ℤ). caseAll r n link count (openAll r n strict w)) (joinAll r n) t (lowered-trans r n t u v a b) c e in
-        let second : (u ≡ t) × (caseAll r n link count t ≡ t) =
-        both-fixed r n (openAll r n strict) (caseAll r n link count) t a b (first .0) in
-        (second .0, second .1, first .1)
+        lowered-then (lowered-then (open-lowers strict t s) (case-lowers link count p u)) (joins-lower (caseAll r n link count u))
