@@ -199,16 +199,3 @@ module _ (s : List ℕ) (l : Limit) (d : addAnswer s l ≡ Done) (h : Header) (e
           open-room = b;
           scratch-room = c;
         }
-
--- a limit whose weight was read back from its bits
-pub weight-back : (s : List ℕ) (x y : ℕ) {v w : ℤ} {strict weak t : List ℤ} {a : Answer} {strict′ weak′ t′ : List ℤ} → v ≡ w
-    → Added version1 (addAnswer s (record { from = x; to = y; weight = v })) (planOf s) (record { from = x; to = y; weight = v })
-    strict weak t a strict′ weak′ t′
-    → Added version1 (addAnswer s (record { from = x; to = y; weight = w })) (planOf s) (record { from = x; to = y; weight = w })
-    strict weak t a strict′ weak′ t′
-weight-back s x y {v} {w} {strict} {weak} {t} {a} {strict′} {weak′} {t′} e h =
-    subst
-    (λ (z : ℤ).
-    Added version1 (addAnswer s (record { from = x; to = y; weight = z })) (planOf s) (record { from = x; to = y; weight = z })
-    strict weak t a strict′ weak′ t′)
-    e h
