@@ -81,18 +81,18 @@ module _ {s : List ℕ} {n m k : ℕ} {l : Limit} {strict weak t : List ℤ} (v 
     room-there : planOf s .points * planOf s .points + planOf s .points * planOf s .points ≤ length t
     room-there = omega (arith, square, v .scratch-room)
 
-    module _ {t₁ : List ℤ} (b : Begun n l strict t t₁) where
+    module _ {t₁ : List ℤ} (b : Begun n l strict t t₁) (eb : length t₁ ≡ length t) where
       begun-there : Begun (planOf s .points) l strict t t₁
       begun-there = subst⁻¹ (λ (o : ℕ). Begun o l strict t t₁) e b
 
       -- there are both tables in the scratch
-      pub started : length t₁ ≡ length t → Both adding n t₁
-      started el =
+      pub started : Both adding n t₁
+      started =
           subst (λ (o : ℕ). Both adding o t₁) e
           (start-both (planOf s) (ready-in-range s n m k (v .ready)) (linkAt s m) k (ready-links s n m k (v .ready)) l limit-there strict weak
-          closed-there t t₁ room-there begun-there el)
+          closed-there t t₁ room-there begun-there eb)
 
-      module _ {t₂ : List ℤ} {r : Bool} (d : Ended adding n (linkAt s m) k t₁ t₂ r) (el : length t₂ ≡ length t) where
+      module _ {t₂ : List ℤ} {r : Bool} (d : Ended adding n (linkAt s m) k t₁ t₂ r) (ed : length t₂ ≡ length t₁) where
         ended-there : Ended adding (planOf s .points) (linkAt s m) k t₁ t₂ r
         ended-there = subst⁻¹ (λ (o : ℕ). Ended adding o (linkAt s m) k t₁ t₂ r) e d
 
@@ -101,7 +101,7 @@ module _ {s : List ℕ} {n m k : ℕ} {l : Limit} {strict weak t : List ℤ} (v 
         cleared {t₃} f =
             let both : Kept (planOf s .points * planOf s .points + planOf s .points * planOf s .points) t t₂ =
             ends-kept (planOf s) (ready-in-range s n m k (v .ready)) (linkAt s m) k (ready-links s n m k (v .ready)) l limit-there strict weak
-            closed-there t t₁ room-there begun-there t₂ ended-there el in
+            closed-there t t₁ room-there begun-there t₂ ended-there (ed ∙ eb) in
             filled (kept-filled (subst (λ (o : ℕ). Kept (o * o + o * o) t t₂) e both) f)
 
         tables : r ≡ true → Tables (withCells (planOf s) (tableOf version1 (planOf s .points) strict) l)
