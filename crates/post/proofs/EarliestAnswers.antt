@@ -69,6 +69,14 @@ module _ (s : List ℕ) (h : Header) (e : h ≡ headOf s) (strict weak times : L
 
 -- ---- the work
 
+-- what a Done answer of Judge wrote
+pub written-of : {file a : Answer} {p : Plan} {strict weak strict′ weak′ : List ℤ} → Judged version1 file p strict weak a strict′ weak′ → a ≡ Done
+    → Written version1 p strict weak strict′ weak′
+written-of (calls.Judged.bad-file b) d = absurd (b d)
+written-of (calls.Judged.short-room e b) d = let z : _≡_ {A = ℕ} 9 0 = ap codeOf d in absurd (omega arith)
+written-of (calls.Judged.uncontrollable e q u b) d = let z : _≡_ {A = ℕ} 11 0 = ap codeOf d in absurd (omega arith)
+written-of (calls.Judged.judged e q w) d = w
+
 module _ (s : List ℕ) (n m : ℕ) (r : Ready s n m 0) (strict weak times : List ℤ) (ls : n * n ≤ length strict) (lw : n * n ≤ length weak)
     (lt : n ≤ length times) where
   no-links : planOf s .links ≡ []
@@ -84,14 +92,6 @@ module _ (s : List ℕ) (n m : ℕ) (r : Ready s n m 0) (strict weak times : Lis
   refused-timed (calls.Judged.short-room e b) d = calls.Timed.short-room e (inl b)
   refused-timed (calls.Judged.uncontrollable e q u b) d = calls.Timed.uncontrollable e q enough-times no-links u b
   refused-timed (calls.Judged.judged e q w) d = absurd (d refl)
-
-  -- what a Done answer of Judge wrote
-  pub written-of : {a : Answer} {strict′ weak′ : List ℤ} → Judged version1 (fileAnswer s) (planOf s) strict weak a strict′ weak′ → a ≡ Done
-      → Written version1 (planOf s) strict weak strict′ weak′
-  written-of (calls.Judged.bad-file b) d = absurd (b d)
-  written-of (calls.Judged.short-room e b) d = let z : _≡_ {A = ℕ} 9 0 = ap codeOf d in absurd (omega arith)
-  written-of (calls.Judged.uncontrollable e q u b) d = let z : _≡_ {A = ℕ} 11 0 = ap codeOf d in absurd (omega arith)
-  written-of (calls.Judged.judged e q w) d = w
 
   -- the plan's tables are such as a sweep stores
   pub written-sound : {strict′ weak′ : List ℤ} → Written version1 (planOf s) strict weak strict′ weak′ → Sound version1 n strict′

@@ -62,8 +62,11 @@ module _ (s : List ℕ) (d : fileAnswer s ≡ Done) (h : Header) (e : h ≡ head
   lent-done ls lw = before.Lent.enough d (omega (arith, header-cells)) (omega (arith, header-cells))
 
   -- and the other way
-  pub enough-cells : Enough s strict weak → (h .points * h .points ≤ strict) × (h .points * h .points ≤ weak)
-  enough-cells q = (omega (arith, header-cells, q .strict-room), omega (arith, header-cells, q .open-room))
+  pub strict-enough : Enough s strict weak → h .points * h .points ≤ strict
+  strict-enough q = omega (arith, header-cells, q .strict-room)
+
+  pub open-enough : Enough s strict weak → h .points * h .points ≤ weak
+  open-enough q = omega (arith, header-cells, q .open-room)
 
 -- nothing was refused
 pub lent-enough : {s : List ℕ} {strict weak : ℕ} {a : Answer} → Lent s strict weak a → a ≡ Done → Enough s strict weak
