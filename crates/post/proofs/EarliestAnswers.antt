@@ -17,7 +17,7 @@ use Rattle.rules.proofs.Demands.{version1-coherent, demand2-of-plans}
 use Rattle.plan.specs.declared.Header.{Header}
 use Rattle.plan.specs.Layout.{headOf, planOf}
 use Rattle.plan.specs.File.{fileAnswer}
-use Rattle.plan.proofs.SoundFile.{points-is, links-length}
+use Rattle.plan.proofs.SoundFile.{header-points, links-length}
 use Rattle.cell.proofs.StoredCells.{within-stored}
 use Rattle.lowering.specs.Table.{Sound, Ready}
 use Rattle.lowering.proofs.Laws.ReadyFile.{ready-points, ready-in-range}
@@ -39,9 +39,6 @@ empty-links [] e = refl
 empty-links (k ∷ ks) e = absurd (omega arith)
 
 module _ (s : List ℕ) (h : Header) (e : h ≡ headOf s) (strict weak times : List ℤ) (q : Enough s (length strict) (length weak)) where
-  points : planOf s .points ≡ h .points
-  points = points-is s ∙ ap (λ (x : Header). x .points) (sym e)
-
   links : length (planOf s .links) ≡ h .links
   links = links-length s ∙ ap (λ (x : Header). x .links) (sym e)
 
@@ -50,12 +47,12 @@ module _ (s : List ℕ) (h : Header) (e : h ≡ headOf s) (strict weak times : L
 
   -- too few times
   pub times-short : length times < h .points → Timed version1 (fileAnswer s) (planOf s) strict weak times ShortRoom strict weak times
-  times-short l = calls.Timed.short-room (q .sound) (inr (omega (arith, points)))
+  times-short l = calls.Timed.short-room (q .sound) (inr (omega (arith, header-points s e)))
 
   -- a plan with links
   pub times-links : h .points ≤ length times → h .links ≢ 0 → Timed version1 (fileAnswer s) (planOf s) strict weak times HasLinks strict weak times
   times-links l n =
-      calls.Timed.has-links (q .sound) room (omega (arith, points)) (λ z. n (sym links ∙ ap (λ (ks : List Link). length ks) z))
+      calls.Timed.has-links (q .sound) room (omega (arith, header-points s e)) (λ z. n (sym links ∙ ap (λ (ks : List Link). length ks) z))
 
   -- the header of a file without links
   pub ready-no-links : h .links ≡ 0 → Ready s (h .points) (h .limits) 0

@@ -1,6 +1,8 @@
 -- `judging::judge` meets its contract. Assumes nothing.
 use Rattle.lowering.proofs.Common.{needs}
-use Rattle.post.proofs.JudgeAnswers.{not-accepted, is-accepted, lent-judged, lent-enough, strict-enough, open-enough, ready-of}
+use Rattle.plan.proofs.SoundFile.{is-accepted, not-accepted}
+use Rattle.adding.proofs.AddAnswers.{ready-of}
+use Rattle.post.proofs.JudgeAnswers.{lent-judged, lent-enough, strict-enough, open-enough}
 use Rattle.post.proofs.judging.judge.Statement.{statement}
 use Rattle.post.proofs.judging.judge.Tie as tie
 

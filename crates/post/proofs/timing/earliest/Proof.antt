@@ -1,6 +1,7 @@
 -- `timing::earliest` meets its contract: what comes before the work, room for the times, no links, and the work. Assumes nothing.
 use Rattle.lowering.proofs.Common.{needs, length}
-use Rattle.post.proofs.JudgeAnswers.{Enough, not-accepted, is-accepted, lent-enough, strict-enough, open-enough}
+use Rattle.plan.proofs.SoundFile.{is-accepted, not-accepted}
+use Rattle.post.proofs.JudgeAnswers.{Enough, lent-enough, strict-enough, open-enough}
 use Rattle.post.proofs.EarliestAnswers.{lent-timed, times-short, times-links, ready-no-links}
 use Rattle.post.proofs.timing.earliest.Statement.{statement}
 use Rattle.post.proofs.timing.earliest.Tie as tie

@@ -1,6 +1,6 @@
 -- `timing::timed` meets its contract: Judge's refusal, or the times of the tables that it wrote. Assumes nothing.
 use Rattle.lowering.proofs.Common.{needs, few}
-use Rattle.post.proofs.JudgeAnswers.{not-accepted, is-accepted}
+use Rattle.plan.proofs.SoundFile.{is-accepted, not-accepted}
 use Rattle.post.proofs.EarliestAnswers.{refused-timed, written-of, written-sound, timed-done}
 use Rattle.post.proofs.timing.timed.Statement.{statement}
 use Rattle.post.proofs.timing.timed.Tie as tie
