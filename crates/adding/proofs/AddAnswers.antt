@@ -1,6 +1,6 @@
 -- Add, answer by answer: from what its calls ensure to its statement. Assumes nothing.
-use mathlib.Core.Path.{_≡_, refl, sym, ap, subst, subst⁻¹, _∙_}
-use mathlib.Core.Bool.{Bool, true, false, not, true≢false}
+use mathlib.Core.Path.{_≡_, refl, ap, subst, subst⁻¹, _∙_}
+use mathlib.Core.Bool.{Bool, true, false, not}
 use mathlib.Core.Logic.{inl, inr}
 use mathlib.Core.List.{List}
 use Prim.Native.Nat.{ℕ, _+_, _*_, _≤_, _<_}
@@ -17,12 +17,10 @@ use Rattle.rules.specs.Calls as calls
 use Rattle.rules.specs.Calls.{Added, Kept, Filled, RoomForTables, scratchOf}
 use Rattle.rules.specs.declared.Answer.{Answer}
 use Rattle.rules.specs.declared.Answer.the-variants.{Done, ShortRoom, NotControllable, NotClosed}
-use Rattle.answers.proofs.CodeZero.{code-zero}
 use Rattle.plan.specs.declared.Header.{Header}
 use Rattle.plan.specs.Layout.{headOf, linkAt, planOf}
-use Rattle.plan.specs.File.{addAnswer}
-use Rattle.plan.proofs.TestsMade.{failed, passed}
-use Rattle.plan.proofs.SoundFile.{points-is, add-exactly}
+use Rattle.plan.specs.File.{fileAnswer, addAnswer}
+use Rattle.plan.proofs.SoundFile.{header-points, header-cells, add-exactly, not-accepted}
 use Rattle.cell.specs.Steps.{adding}
 use Rattle.lowering.specs.Table.{Ready}
 use Rattle.lowering.specs.Fair.{AllWithin}
@@ -81,18 +79,18 @@ module _ {s : List ℕ} {n m k : ℕ} {l : Limit} {strict weak t : List ℤ} (v 
     room-there : planOf s .points * planOf s .points + planOf s .points * planOf s .points ≤ length t
     room-there = omega (arith, square, v .scratch-room)
 
-    module _ {t₁ : List ℤ} (b : Begun n l strict t t₁) where
+    module _ {t₁ : List ℤ} (b : Begun n l strict t t₁) (eb : length t₁ ≡ length t) where
       begun-there : Begun (planOf s .points) l strict t t₁
       begun-there = subst⁻¹ (λ (o : ℕ). Begun o l strict t t₁) e b
 
       -- there are both tables in the scratch
-      pub started : length t₁ ≡ length t → Both adding n t₁
-      started el =
+      pub started : Both adding n t₁
+      started =
           subst (λ (o : ℕ). Both adding o t₁) e
           (start-both (planOf s) (ready-in-range s n m k (v .ready)) (linkAt s m) k (ready-links s n m k (v .ready)) l limit-there strict weak
-          closed-there t t₁ room-there begun-there el)
+          closed-there t t₁ room-there begun-there eb)
 
-      module _ {t₂ : List ℤ} {r : Bool} (d : Ended adding n (linkAt s m) k t₁ t₂ r) (el : length t₂ ≡ length t) where
+      module _ {t₂ : List ℤ} {r : Bool} (d : Ended adding n (linkAt s m) k t₁ t₂ r) (ed : length t₂ ≡ length t₁) where
         ended-there : Ended adding (planOf s .points) (linkAt s m) k t₁ t₂ r
         ended-there = subst⁻¹ (λ (o : ℕ). Ended adding o (linkAt s m) k t₁ t₂ r) e d
 
@@ -101,7 +99,7 @@ module _ {s : List ℕ} {n m k : ℕ} {l : Limit} {strict weak t : List ℤ} (v 
         cleared {t₃} f =
             let both : Kept (planOf s .points * planOf s .points + planOf s .points * planOf s .points) t t₂ =
             ends-kept (planOf s) (ready-in-range s n m k (v .ready)) (linkAt s m) k (ready-links s n m k (v .ready)) l limit-there strict weak
-            closed-there t t₁ room-there begun-there t₂ ended-there el in
+            closed-there t t₁ room-there begun-there t₂ ended-there (ed ∙ eb) in
             filled (kept-filled (subst (λ (o : ℕ). Kept (o * o + o * o) t t₂) e both) f)
 
         tables : r ≡ true → Tables (withCells (planOf s) (tableOf version1 (planOf s .points) strict) l)
@@ -144,22 +142,12 @@ module _ {s : List ℕ} {n m k : ℕ} {l : Limit} {strict weak t : List ℤ} (v 
             })
             (none-beyond (planOf s) t₂ a′ o′ (subst⁻¹ (λ (j : ℕ). InReach (j * j + j * j) t₂) e i)) (cleared f)
 
--- the file's answer with the limit: a refusal stands, and else it is Done
-module _ (s : List ℕ) (l : Limit) (a : Answer) (e : a ≡ addAnswer s l) (b : Bool) (q : b ≡ eqb (codeOf a) 0) where
-  pub file-refused : (strict weak t : List ℤ) → not b ≡ true → Added version1 (addAnswer s l) (planOf s) l strict weak t a strict weak t
-  file-refused strict weak t n =
-      subst⁻¹ (λ (x : Answer). Added version1 (addAnswer s l) (planOf s) l strict weak t x strict weak t) e
-      (calls.Added.bad-file (λ d. true≢false (sym (ap (λ (x : Answer). eqb (codeOf x) 0) (e ∙ d)) ∙ failed q n)))
-
-  pub file-done : not b ≡ false → addAnswer s l ≡ Done
-  file-done n = sym e ∙ code-zero a (passed q n)
-
--- the header that was read
-module _ (s : List ℕ) (l : Limit) (d : addAnswer s l ≡ Done) (h : Header) (e : h ≡ headOf s) where
-  pub ready : Ready s (h .points) (h .limits) (h .links)
-  ready =
+-- the header that was read of a sound file
+module _ (s : List ℕ) (d : fileAnswer s ≡ Done) (h : Header) (e : h ≡ headOf s) where
+  pub ready-of : Ready s (h .points) (h .limits) (h .links)
+  ready-of =
       record {
-        sound = add-exactly s l .0 d .0;
+        sound = d;
         points = ap (λ (x : Header). x .points) e;
         limits = ap (λ (x : Header). x .limits) e;
         links = ap (λ (x : Header). x .links) e;
@@ -167,48 +155,38 @@ module _ (s : List ℕ) (l : Limit) (d : addAnswer s l ≡ Done) (h : Header) (e
 
   -- a table's size fits a number of the machine
   pub cells-small : h .points * h .points ≤ 4096
-  cells-small = square-le (few ready)
+  cells-small = square-le (few ready-of)
 
-  points : planOf s .points ≡ h .points
-  points = points-is s ∙ ap (λ (x : Header). x .points) (sym e)
+module _ (s : List ℕ) (l : Limit) (strict weak t : List ℤ) where
+  -- the file's answer with the limit: a refusal stands
+  pub file-refused : {a : Answer} {b : Bool} → a ≡ addAnswer s l → b ≡ eqb (codeOf a) 0 → not b ≡ true
+      → Added version1 (addAnswer s l) (planOf s) l strict weak t a strict weak t
+  file-refused e q n =
+      subst⁻¹ (λ (x : Answer). Added version1 (addAnswer s l) (planOf s) l strict weak t x strict weak t) e
+      (calls.Added.bad-file (not-accepted (addAnswer s l) e q n))
 
-  cells : planOf s .points * planOf s .points ≡ h .points * h .points
-  cells = ap (λ (n : ℕ). n * n) points
-
-  module _ (strict weak t : List ℤ) where
+  -- and past it, by the header that was read
+  module _ (d : addAnswer s l ≡ Done) (h : Header) (e : h ≡ headOf s) where
     -- 9
     pub strict-short : length strict < h .points * h .points → Added version1 (addAnswer s l) (planOf s) l strict weak t ShortRoom strict weak t
-    strict-short q = calls.Added.short-room d (inl (inl (omega (arith, cells))))
+    strict-short q = calls.Added.short-room d (inl (inl (omega (arith, header-cells s e))))
 
     pub open-short : length weak < h .points * h .points → Added version1 (addAnswer s l) (planOf s) l strict weak t ShortRoom strict weak t
-    open-short q = calls.Added.short-room d (inl (inr (omega (arith, cells))))
+    open-short q = calls.Added.short-room d (inl (inr (omega (arith, header-cells s e))))
 
     pub scratch-short : length t < h .points * h .points + h .points * h .points
         → Added version1 (addAnswer s l) (planOf s) l strict weak t ShortRoom strict weak t
-    scratch-short q = calls.Added.short-room d (inr (omega (arith, cells)))
+    scratch-short q = calls.Added.short-room d (inr (omega (arith, header-cells s e)))
 
-    -- and past it
+    -- there is room
     pub lent : h .points * h .points ≤ length strict → h .points * h .points ≤ length weak → h .points * h .points + h .points * h .points ≤ length t
         → Lent s (h .points) (h .limits) (h .links) l strict weak t
     lent a b c =
         record {
-          ready = ready;
+          ready = ready-of s (add-exactly s l .0 d .0) h e;
           done = d;
-          limit = subst (λ (o : ℕ). LimitInRange version1 o l) points (add-exactly s l .0 d .1);
+          limit = subst (λ (o : ℕ). LimitInRange version1 o l) (header-points s e) (add-exactly s l .0 d .1);
           strict-room = a;
           open-room = b;
           scratch-room = c;
         }
-
--- a limit whose weight was read back from its bits
-pub weight-back : (s : List ℕ) (x y : ℕ) {v w : ℤ} {strict weak t : List ℤ} {a : Answer} {strict′ weak′ t′ : List ℤ} → v ≡ w
-    → Added version1 (addAnswer s (record { from = x; to = y; weight = v })) (planOf s) (record { from = x; to = y; weight = v })
-    strict weak t a strict′ weak′ t′
-    → Added version1 (addAnswer s (record { from = x; to = y; weight = w })) (planOf s) (record { from = x; to = y; weight = w })
-    strict weak t a strict′ weak′ t′
-weight-back s x y {v} {w} {strict} {weak} {t} {a} {strict′} {weak′} {t′} e h =
-    subst
-    (λ (z : ℤ).
-    Added version1 (addAnswer s (record { from = x; to = y; weight = z })) (planOf s) (record { from = x; to = y; weight = z })
-    strict weak t a strict′ weak′ t′)
-    e h

@@ -1,6 +1,6 @@
 -- What the walks through the code import, from one place: the tactics' sets, the kit's numbers and lists, and the definitions, records and laws that
 -- several of them cite. Assumes nothing.
-pub use mathlib.Core.Path.{_∙_, _≡_, refl, sym}
+pub use mathlib.Core.Path.{_≡_, refl}
 pub use Prim.Native.Nat.{_-_, _≤_}
 pub use native.Mathlib.Nat.{sub-zero}
 pub use native.Mathlib.Omega.{arith}

@@ -3,17 +3,39 @@
 use mathlib.Core.Path.{_≡_}
 use mathlib.Core.Bool.{Bool, true, false, not}
 use mathlib.Core.List.{List, []}
-use Prim.Native.Nat.{ℕ}
+use Prim.Native.Nat.{ℕ, _≤_}
 use lib.Dec.{eqb}
 use lib.ListN.{length}
+use borrow.Author.Tests.{le-leb, eq-eqb}
 use Rattle.rules.specs.Plan.{Limit, version1}
 use Rattle.rules.specs.Answers.{codeOf}
 use Rattle.rules.specs.declared.Answer.{Answer}
-use Rattle.rules.specs.declared.Answer.the-variants.{BadLimit}
+use Rattle.rules.specs.declared.Answer.the-variants.{Done, BadPoints, BadCounts, BadLayout, BadLimit}
 use Rattle.plan.specs.declared.Header.{Header}
 use Rattle.plan.specs.Layout.{headOf, limitAt, linkAt, records, planOf}
-use Rattle.plan.specs.File.{headAnswer, limitFits, limitPlace, limitsAnswer, linksAnswer, frontAnswer, fileAnswer, addAnswer}
+use Rattle.plan.specs.File.{pointsFit, countsFit, laidOut, headAnswer, limitFits, limitPlace, limitsAnswer, linksAnswer, frontAnswer, fileAnswer, addAnswer}
 use Rattle.plan.proofs.TestsMade.{failed, passed}
+
+-- ---- the header's own tests, past those of its size and its version
+
+module _ (size : ℕ) (h : Header) (room : 24 ≤ size) (version : h .version ≡ 1) {p : Bool} (e : p ≡ pointsFit version1 (h .points)) where
+  pub bad-points : not p ≡ true → BadPoints ≡ headAnswer size h
+  unfolding headAnswer
+  bad-points u = simp (le-leb 24 size room, eq-eqb (h .version) 1 version, failed e u)
+
+  module _ (u : not p ≡ false) {c : Bool} (f : c ≡ countsFit version1 (h .limits) (h .links)) where
+    pub bad-counts : not c ≡ true → BadCounts ≡ headAnswer size h
+    unfolding headAnswer
+    bad-counts v = simp (le-leb 24 size room, eq-eqb (h .version) 1 version, passed e u, failed f v)
+
+    module _ (v : not c ≡ false) {l : Bool} (g : l ≡ laidOut size h) where
+      pub bad-layout : not l ≡ true → BadLayout ≡ headAnswer size h
+      unfolding headAnswer
+      bad-layout w = simp (le-leb 24 size room, eq-eqb (h .version) 1 version, passed e u, passed f v, failed g w)
+
+      pub head-done : not l ≡ false → Done ≡ headAnswer size h
+      unfolding headAnswer
+      head-done w = simp (le-leb 24 size room, eq-eqb (h .version) 1 version, passed e u, passed f v, passed g w)
 
 module _ (s : List ℕ) {a : Answer} {t : Bool} (e : t ≡ eqb (codeOf a) 0) where
   -- ---- the header, then the limits

@@ -1,6 +1,6 @@
 -- Records in file order, one at a time: what a turn of each loop does to the answer that it is working out.
 -- `records f i (m - i)` are the records from index i to the last, `earlier f i` those before it. Assumes nothing.
-use mathlib.Core.Path.{_≡_, ap}
+use mathlib.Core.Path.{_≡_, sym, ap, _∙_}
 use mathlib.Core.Bool.{Bool, true, false, not}
 use mathlib.Core.List.{[], _∷_}
 use Prim.Native.Nat.{ℕ, suc, _+_, _-_, _≤_, _<_}
@@ -8,6 +8,7 @@ use native.Mathlib.Numerals.{add-one}
 use native.Mathlib.Omega.{arith}
 use borrow.Author.Tests.{eq-eqb, ne-eqb}
 use Rattle.rules.specs.Plan.{Limit, Link, Ranges}
+use Rattle.rules.specs.declared.Answer.{Answer}
 use Rattle.rules.specs.declared.Answer.the-variants.{Done, BadLimit, BadLink, RepeatedLink}
 use Rattle.plan.specs.Layout.{records, earlier}
 use Rattle.plan.specs.File.{limitFits, linkFits, fresh, limitPlace, linkPlace, limitsAnswer, linksAnswer}
@@ -30,47 +31,50 @@ earlier-next f j h =
     let e : j ≡ suc (j - 1) = omega arith in
     ap (earlier f) e
 
--- ---- limits: x is limit i as a call read it, and b what the test said of it
+-- ---- limits: a is the answer that is worked out, x is limit i as a call read it, and b what the test said of it
 
-module _ (r : Ranges) (n : ℕ) (f : ℕ → Limit) (i m : ℕ) (h : i < m) {x : Limit} {b : Bool} (e : x ≡ f i) (t : b ≡ limitFits r n x) where
-  pub limits-next : not b ≡ false → limitsAnswer r n i (records f i (m - i)) ≡ limitsAnswer r n (i + 1) (records f (i + 1) (m - (i + 1)))
-  limits-next u = rw (records-next f i m h, ← e, passed t u, add-one)
+module _ (r : Ranges) (n : ℕ) (f : ℕ → Limit) (i m : ℕ) {a : Answer} (w : a ≡ limitsAnswer r n i (records f i (m - i))) where
+  module _ (h : i < m) {x : Limit} {b : Bool} (e : x ≡ f i) (t : b ≡ limitFits r n x) where
+    pub limits-next : not b ≡ false → a ≡ limitsAnswer r n (i + 1) (records f (i + 1) (m - (i + 1)))
+    limits-next u = w ∙ rw (records-next f i m h, ← e, passed t u, add-one)
 
-  pub limits-stop : not b ≡ true → limitsAnswer r n i (records f i (m - i)) ≡ BadLimit (limitPlace i)
-  limits-stop u = rw (records-next f i m h, ← e, failed t u)
+    pub limits-stop : not b ≡ true → BadLimit (limitPlace i) ≡ a
+    limits-stop u = sym (w ∙ rw (records-next f i m h, ← e, failed t u))
 
-pub limits-end : (r : Ranges) (n : ℕ) (f : ℕ → Limit) (i m : ℕ) → m ≤ i → limitsAnswer r n i (records f i (m - i)) ≡ Done
-limits-end r n f i m h = rw (records-end f i m h)
+  pub limits-end : m ≤ i → Done ≡ a
+  limits-end h = sym (w ∙ rw (records-end f i m h))
 
--- ---- the search back: x is the link before index j
+-- ---- the search back: a is whether none has the point, x is the link before index j
 
-module _ (con : ℕ) (f : ℕ → Link) (j : ℕ) (h : 0 < j) {x : Link} (e : x ≡ f (j - 1)) where
-  pub fresh-next : (x .con ≡ con → ⊥) → fresh con (earlier f j) ≡ fresh con (earlier f (j - 1))
-  fresh-next d = rw (earlier-next f j h, ← e, ne-eqb (x .con) con d)
+module _ (con : ℕ) (f : ℕ → Link) (j : ℕ) {a : Bool} (w : a ≡ fresh con (earlier f j)) where
+  module _ (h : 0 < j) {x : Link} (e : x ≡ f (j - 1)) where
+    pub fresh-next : (x .con ≡ con → ⊥) → a ≡ fresh con (earlier f (j - 1))
+    fresh-next d = w ∙ rw (earlier-next f j h, ← e, ne-eqb (x .con) con d)
 
-  pub fresh-stop : x .con ≡ con → fresh con (earlier f j) ≡ false
-  fresh-stop d = rw (earlier-next f j h, ← e, eq-eqb (x .con) con d)
+    pub fresh-stop : x .con ≡ con → false ≡ a
+    fresh-stop d = sym (w ∙ rw (earlier-next f j h, ← e, eq-eqb (x .con) con d))
 
-pub fresh-end : (con : ℕ) (f : ℕ → Link) (j : ℕ) → j ≤ 0 → fresh con (earlier f j) ≡ true
-fresh-end con f j h =
-    let e : j ≡ 0 = omega arith in
-    rw e
+  pub fresh-end : j ≤ 0 → true ≡ a
+  fresh-end h =
+      let e : j ≡ 0 = omega arith in
+      sym (w ∙ rw e)
 
--- ---- links: x is link i, b what the first test said of it and d what the second
+-- ---- links: a is the answer, x is link i, b what the first test said of it and d what the second
 
-module _ (r : Ranges) (n : ℕ) (f : ℕ → Link) (i k : ℕ) (h : i < k) {x : Link} {b : Bool} (e : x ≡ f i) (t : b ≡ linkFits r n x) where
-  pub links-stop : not b ≡ true → linksAnswer r n i (earlier f i) (records f i (k - i)) ≡ BadLink (linkPlace i)
-  links-stop u = rw (records-next f i k h, ← e, failed t u)
+module _ (r : Ranges) (n : ℕ) (f : ℕ → Link) (i k : ℕ) {a : Answer} (z : a ≡ linksAnswer r n i (earlier f i) (records f i (k - i))) where
+  module _ (h : i < k) {x : Link} {b : Bool} (e : x ≡ f i) (t : b ≡ linkFits r n x) where
+    pub links-stop : not b ≡ true → BadLink (linkPlace i) ≡ a
+    links-stop u = sym (z ∙ rw (records-next f i k h, ← e, failed t u))
 
-  module _ (u : not b ≡ false) {d : Bool} (v : d ≡ fresh (x .con) (earlier f i)) where
-    pub links-next : not d ≡ false
-        → linksAnswer r n i (earlier f i) (records f i (k - i)) ≡ linksAnswer r n (i + 1) (earlier f (i + 1)) (records f (i + 1) (k - (i + 1)))
-    links-next w =
-        rw (records-next f i k h, ← e, passed t u, passed v w, add-one)
-        (ap (λ (y : Link). linksAnswer r n (suc i) (y ∷ earlier f i) (records f (suc i) (k - suc i))) e)
+    module _ (u : not b ≡ false) {d : Bool} (v : d ≡ fresh (x .con) (earlier f i)) where
+      pub links-next : not d ≡ false → a ≡ linksAnswer r n (i + 1) (earlier f (i + 1)) (records f (i + 1) (k - (i + 1)))
+      links-next w =
+          z
+          ∙ rw (records-next f i k h, ← e, passed t u, passed v w, add-one)
+          (ap (λ (y : Link). linksAnswer r n (suc i) (y ∷ earlier f i) (records f (suc i) (k - suc i))) e)
 
-    pub links-repeat : not d ≡ true → linksAnswer r n i (earlier f i) (records f i (k - i)) ≡ RepeatedLink (linkPlace i)
-    links-repeat w = rw (records-next f i k h, ← e, passed t u, failed v w)
+      pub links-repeat : not d ≡ true → RepeatedLink (linkPlace i) ≡ a
+      links-repeat w = sym (z ∙ rw (records-next f i k h, ← e, passed t u, failed v w))
 
-pub links-end : (r : Ranges) (n : ℕ) (f : ℕ → Link) (i k : ℕ) → k ≤ i → linksAnswer r n i (earlier f i) (records f i (k - i)) ≡ Done
-links-end r n f i k h = rw (records-end f i k h)
+  pub links-end : k ≤ i → Done ≡ a
+  links-end h = sym (z ∙ rw (records-end f i k h))

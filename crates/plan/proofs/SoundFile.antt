@@ -1,26 +1,26 @@
 -- What a sound file gives: the reader's answer is Done exactly for the paper's plan files, and then one record holds all that
 -- later proofs need of the bytes. With Add's limit it is Done exactly where both the file and the limit are in range.
 -- Assumes nothing.
-use mathlib.Core.Path.{_≡_, refl, sym, _∙_}
-use mathlib.Core.Logic.{_↔_, _≢_, ⊎-elim}
-use mathlib.Core.Bool.{Bool, true, false, not, _&&_}
+use mathlib.Core.Path.{_≡_, refl, sym, ap, _∙_}
+use mathlib.Core.Logic.{_↔_, _≢_}
+use mathlib.Core.Bool.{Bool, true, false, not, _&&_, true≢false}
 use mathlib.Core.List.{List, [], List·Memᴰ, List·Memᴰ·not-nil}
-use Prim.Native.Nat.{ℕ, zero, suc, _+_, _≤_, _<_}
-use native.Mathlib.Nat.{zero-add, eq-or-lt-of-le}
+use Prim.Native.Nat.{ℕ, _*_, _≤_, _<_}
+use native.Mathlib.Nat.{zero-add}
 use native.Mathlib.Omega.{arith}
 use lib.Dec.{leb, eqb}
 use lib.ListN.{length}
 use borrow.Author.Tests.{leb-true, eqb-true, le-leb, eq-eqb}
-use Rattle.rules.specs.Plan.{Limit, Link, version1, LimitInRange, LinkInRange, Unshared, InRange}
+use Rattle.rules.specs.Plan.{Limit, Link, version1, LimitInRange, LinkInRange, InRange}
 use Rattle.rules.specs.Answers.{codeOf}
 use Rattle.rules.specs.declared.Answer.{Answer}
 use Rattle.rules.specs.declared.Answer.the-variants.{Done, FewBytes, BadVersion, BadPoints, BadCounts, BadLayout, BadLimit}
 use Rattle.plan.specs.declared.Header.{Header}
-use Rattle.plan.specs.Layout.{headOf, limitOffset, linkOffset, limitAt, linkAt, records, planOf}
+use Rattle.plan.specs.Layout.{headOf, limitOffset, linkOffset, limitAt, linkAt, planOf}
 use Rattle.answers.specs.Order.{_then_, unless}
 use Rattle.answers.proofs.CodeZero.{code-zero, then-done, done-then, unless-done, done-unless}
 use Rattle.plan.specs.File.{pointsFit, countsFit, laidOut, headAnswer, limitFits, limitPlace, limitsAnswer, linksAnswer, frontAnswer, fileAnswer, addAnswer, PlanFile}
-use Rattle.plan.proofs.TestsMade.{passed, both, and}
+use Rattle.plan.proofs.TestsMade.{failed, passed, both, and}
 use Rattle.plan.proofs.Records.{Listed, records-length, record-in, in-records}
 use Rattle.plan.proofs.TestsDecide.{limit-ok, ok-limit, limits-ok, ok-limits, LinksOk, links-ok, ok-links}
 
@@ -238,20 +238,18 @@ add-exactly s added = (there, back)
 
 -- ---- from what the calls ensure: a is what `sound` or `sound_with` answered, t what `accepted` said of it
 
-accepted-is : {a : Answer} {t : Bool} (b : Answer) → a ≡ b → t ≡ eqb (codeOf a) 0 → not t ≡ false → b ≡ Done
-accepted-is {a} b p e u = sym p ∙ code-zero a (passed e u)
+pub is-accepted : {a : Answer} {t : Bool} (b : Answer) → a ≡ b → t ≡ eqb (codeOf a) 0 → not t ≡ false → b ≡ Done
+is-accepted {a} b p e u = sym p ∙ code-zero a (passed e u)
 
-pub good-file : (s : List ℕ) {a : Answer} {t : Bool} → a ≡ fileAnswer s → t ≡ eqb (codeOf a) 0 → not t ≡ false → Good s
-good-file s p e u = good s (accepted-is (fileAnswer s) p e u)
+pub not-accepted : {a : Answer} {t : Bool} (b : Answer) → a ≡ b → t ≡ eqb (codeOf a) 0 → not t ≡ true → b ≢ Done
+not-accepted b p e u d = true≢false (sym (ap (λ (x : Answer). eqb (codeOf x) 0) (p ∙ d)) ∙ failed e u)
 
-pub good-add : (s : List ℕ) (added : Limit) {a : Answer} {t : Bool}
-    → a ≡ addAnswer s added
-    → t ≡ eqb (codeOf a) 0
-    → not t ≡ false
-    → Good s × LimitInRange version1 (headOf s .points) added
-good-add s added p e u =
-    let both-ok = add-exactly s added .0 (accepted-is (addAnswer s added) p e u) in
-    (good s (both-ok .0), rw points-is at (both-ok .1))
+-- the header that was read says how many points and cells there are
+pub header-points : (s : List ℕ) {h : Header} → h ≡ headOf s → planOf s .points ≡ h .points
+header-points s e = points-is s ∙ ap (λ (h : Header). h .points) (sym e)
+
+pub header-cells : (s : List ℕ) {h : Header} → h ≡ headOf s → planOf s .points * planOf s .points ≡ h .points * h .points
+header-cells s e = ap (λ (n : ℕ). n * n) (header-points s e)
 
 -- ---- what later proofs ask by index
 
@@ -261,16 +259,3 @@ limit-ranged s g i l = rw points-is at (g .ranges .limit (limitAt s i) (g .limit
 
 pub link-ranged : (s : List ℕ) → Good s → (i : ℕ) → i < headOf s .links → LinkInRange version1 (headOf s .points) (linkAt s (headOf s .limits) i)
 link-ranged s g i l = rw points-is at (g .ranges .link (linkAt s (headOf s .limits) i) (g .link-in i l))
-
--- two links at different indices have different contingent points
-apart : (f : ℕ → Link) (i n a b : ℕ) → Unshared (records f i n) → i ≤ a → a < b → b < i + n → f b .con ≢ f a .con
-apart f i zero a b u p q r = absurd (omega arith)
-apart f i (suc n) a b u p q r =
-    ⊎-elim
-    (λ (e : i ≡ a). rw (← e) (u .0 (f b) (record-in f (suc i) n b (omega arith) (omega arith))))
-    (λ (l : i < a). apart f (suc i) n a b (u .1) l q (omega arith))
-    (eq-or-lt-of-le p)
-
-pub links-apart : (s : List ℕ) → Good s → (a b : ℕ) → a < b → b < headOf s .links → linkAt s (headOf s .limits) b .con ≢ linkAt s (headOf s .limits) a .con
-unfolding planOf
-links-apart s g a b l h = apart (linkAt s (headOf s .limits)) 0 (headOf s .links) a b (g .ranges .unshared) (omega arith) l (omega arith)

@@ -17,7 +17,7 @@ use Rattle.rules.proofs.Demands.{version1-coherent, demand2-of-plans}
 use Rattle.plan.specs.declared.Header.{Header}
 use Rattle.plan.specs.Layout.{headOf, planOf}
 use Rattle.plan.specs.File.{fileAnswer}
-use Rattle.plan.proofs.SoundFile.{points-is, links-length}
+use Rattle.plan.proofs.SoundFile.{header-points, links-length}
 use Rattle.cell.proofs.StoredCells.{within-stored}
 use Rattle.lowering.specs.Table.{Sound, Ready}
 use Rattle.lowering.proofs.Laws.ReadyFile.{ready-points, ready-in-range}
@@ -39,9 +39,6 @@ empty-links [] e = refl
 empty-links (k ∷ ks) e = absurd (omega arith)
 
 module _ (s : List ℕ) (h : Header) (e : h ≡ headOf s) (strict weak times : List ℤ) (q : Enough s (length strict) (length weak)) where
-  points : planOf s .points ≡ h .points
-  points = points-is s ∙ ap (λ (x : Header). x .points) (sym e)
-
   links : length (planOf s .links) ≡ h .links
   links = links-length s ∙ ap (λ (x : Header). x .links) (sym e)
 
@@ -50,12 +47,12 @@ module _ (s : List ℕ) (h : Header) (e : h ≡ headOf s) (strict weak times : L
 
   -- too few times
   pub times-short : length times < h .points → Timed version1 (fileAnswer s) (planOf s) strict weak times ShortRoom strict weak times
-  times-short l = calls.Timed.short-room (q .sound) (inr (omega (arith, points)))
+  times-short l = calls.Timed.short-room (q .sound) (inr (omega (arith, header-points s e)))
 
   -- a plan with links
   pub times-links : h .points ≤ length times → h .links ≢ 0 → Timed version1 (fileAnswer s) (planOf s) strict weak times HasLinks strict weak times
   times-links l n =
-      calls.Timed.has-links (q .sound) room (omega (arith, points)) (λ z. n (sym links ∙ ap (λ (ks : List Link). length ks) z))
+      calls.Timed.has-links (q .sound) room (omega (arith, header-points s e)) (λ z. n (sym links ∙ ap (λ (ks : List Link). length ks) z))
 
   -- the header of a file without links
   pub ready-no-links : h .links ≡ 0 → Ready s (h .points) (h .limits) 0
@@ -68,6 +65,14 @@ module _ (s : List ℕ) (h : Header) (e : h ≡ headOf s) (strict weak times : L
       }
 
 -- ---- the work
+
+-- what a Done answer of Judge wrote
+pub written-of : {file a : Answer} {p : Plan} {strict weak strict′ weak′ : List ℤ} → Judged version1 file p strict weak a strict′ weak′ → a ≡ Done
+    → Written version1 p strict weak strict′ weak′
+written-of (calls.Judged.bad-file b) d = absurd (b d)
+written-of (calls.Judged.short-room e b) d = let z : _≡_ {A = ℕ} 9 0 = ap codeOf d in absurd (omega arith)
+written-of (calls.Judged.uncontrollable e q u b) d = let z : _≡_ {A = ℕ} 11 0 = ap codeOf d in absurd (omega arith)
+written-of (calls.Judged.judged e q w) d = w
 
 module _ (s : List ℕ) (n m : ℕ) (r : Ready s n m 0) (strict weak times : List ℤ) (ls : n * n ≤ length strict) (lw : n * n ≤ length weak)
     (lt : n ≤ length times) where
@@ -84,14 +89,6 @@ module _ (s : List ℕ) (n m : ℕ) (r : Ready s n m 0) (strict weak times : Lis
   refused-timed (calls.Judged.short-room e b) d = calls.Timed.short-room e (inl b)
   refused-timed (calls.Judged.uncontrollable e q u b) d = calls.Timed.uncontrollable e q enough-times no-links u b
   refused-timed (calls.Judged.judged e q w) d = absurd (d refl)
-
-  -- what a Done answer of Judge wrote
-  pub written-of : {a : Answer} {strict′ weak′ : List ℤ} → Judged version1 (fileAnswer s) (planOf s) strict weak a strict′ weak′ → a ≡ Done
-      → Written version1 (planOf s) strict weak strict′ weak′
-  written-of (calls.Judged.bad-file b) d = absurd (b d)
-  written-of (calls.Judged.short-room e b) d = let z : _≡_ {A = ℕ} 9 0 = ap codeOf d in absurd (omega arith)
-  written-of (calls.Judged.uncontrollable e q u b) d = let z : _≡_ {A = ℕ} 11 0 = ap codeOf d in absurd (omega arith)
-  written-of (calls.Judged.judged e q w) d = w
 
   -- the plan's tables are such as a sweep stores
   pub written-sound : {strict′ weak′ : List ℤ} → Written version1 (planOf s) strict weak strict′ weak′ → Sound version1 n strict′

@@ -1,6 +1,6 @@
 -- Judge, answer by answer: from what its calls ensure to its statement. Assumes nothing.
-use mathlib.Core.Path.{_≡_, refl, sym, ap, subst, subst⁻¹, _∙_}
-use mathlib.Core.Bool.{Bool, true, false, not, true≢false}
+use mathlib.Core.Path.{_≡_, refl, ap, subst, subst⁻¹}
+use mathlib.Core.Bool.{Bool, true, not}
 use mathlib.Core.Logic.{_≢_, inl, inr}
 use mathlib.Core.List.{List}
 use Prim.Native.Nat.{ℕ, _*_, _≤_, _<_}
@@ -14,12 +14,10 @@ use Rattle.rules.specs.Calls as calls
 use Rattle.rules.specs.Calls.{Kept, Filled, RoomForTables, Written, Judged}
 use Rattle.rules.specs.declared.Answer.{Answer}
 use Rattle.rules.specs.declared.Answer.the-variants.{Done, ShortRoom, NotControllable}
-use Rattle.answers.proofs.CodeZero.{code-zero}
 use Rattle.plan.specs.declared.Header.{Header}
 use Rattle.plan.specs.Layout.{headOf, planOf}
 use Rattle.plan.specs.File.{fileAnswer}
-use Rattle.plan.proofs.TestsMade.{failed, passed}
-use Rattle.plan.proofs.SoundFile.{points-is}
+use Rattle.plan.proofs.SoundFile.{header-cells, not-accepted}
 use Rattle.lowering.specs.Table.{Ready}
 use Rattle.lowering.specs.Sweep.{markAll}
 use Rattle.tables.specs.Ends.{Refused}
@@ -29,13 +27,6 @@ use Rattle.lowering.proofs.Theory.SweepsEnd.{marks-kept, kept-trans}
 use Rattle.post.specs.Lent.{Lent}
 use Rattle.post.specs.Lent as before
 
--- an answer that was not accepted is no Done, and one that was is
-pub not-accepted : (a : Answer) (b : Bool) → b ≡ eqb (codeOf a) 0 → not b ≡ true → a ≢ Done
-not-accepted a b t n d = true≢false (sym (ap (λ (x : Answer). eqb (codeOf x) 0) d) ∙ failed t n)
-
-pub is-accepted : (a : Answer) (b : Bool) → b ≡ eqb (codeOf a) 0 → not b ≡ false → a ≡ Done
-is-accepted a b t n = code-zero a (passed t n)
-
 -- ---- what comes before the work
 
 pub record Enough (s : List ℕ) (strict weak : ℕ) : Type 0 where
@@ -44,26 +35,27 @@ pub record Enough (s : List ℕ) (strict weak : ℕ) : Type 0 where
   pub open-room : planOf s .points * planOf s .points ≤ weak
 
 -- the file's own refusal
-pub lent-refused : (s : List ℕ) (strict weak : ℕ) (a : Answer) (b : Bool) → a ≡ fileAnswer s → b ≡ eqb (codeOf a) 0 → not b ≡ true → Lent s strict weak a
-lent-refused s strict weak a b e t n = subst⁻¹ (Lent s strict weak) e (before.Lent.bad-file (λ d. not-accepted a b t n (e ∙ d)))
+pub lent-refused : (s : List ℕ) (strict weak : ℕ) {a : Answer} {b : Bool} → a ≡ fileAnswer s → b ≡ eqb (codeOf a) 0 → not b ≡ true
+    → Lent s strict weak a
+lent-refused s strict weak e t n = subst⁻¹ (Lent s strict weak) e (before.Lent.bad-file (not-accepted (fileAnswer s) e t n))
 
 -- the header that was read of a sound file says how many cells a table has
 module _ (s : List ℕ) (d : fileAnswer s ≡ Done) (h : Header) (e : h ≡ headOf s) (strict weak : ℕ) where
-  header-cells : planOf s .points * planOf s .points ≡ h .points * h .points
-  header-cells = ap (λ (n : ℕ). n * n) (points-is s ∙ ap (λ (x : Header). x .points) (sym e))
-
   pub lent-short-strict : strict < h .points * h .points → Lent s strict weak ShortRoom
-  lent-short-strict l = before.Lent.short d (inl (omega (arith, header-cells)))
+  lent-short-strict l = before.Lent.short d (inl (omega (arith, header-cells s e)))
 
   pub lent-short-open : weak < h .points * h .points → Lent s strict weak ShortRoom
-  lent-short-open l = before.Lent.short d (inr (omega (arith, header-cells)))
+  lent-short-open l = before.Lent.short d (inr (omega (arith, header-cells s e)))
 
   pub lent-done : h .points * h .points ≤ strict → h .points * h .points ≤ weak → Lent s strict weak Done
-  lent-done ls lw = before.Lent.enough d (omega (arith, header-cells)) (omega (arith, header-cells))
+  lent-done ls lw = before.Lent.enough d (omega (arith, header-cells s e)) (omega (arith, header-cells s e))
 
   -- and the other way
-  pub enough-cells : Enough s strict weak → (h .points * h .points ≤ strict) × (h .points * h .points ≤ weak)
-  enough-cells q = (omega (arith, header-cells, q .strict-room), omega (arith, header-cells, q .open-room))
+  pub strict-enough : Enough s strict weak → h .points * h .points ≤ strict
+  strict-enough q = omega (arith, header-cells s e, q .strict-room)
+
+  pub open-enough : Enough s strict weak → h .points * h .points ≤ weak
+  open-enough q = omega (arith, header-cells s e, q .open-room)
 
 -- nothing was refused
 pub lent-enough : {s : List ℕ} {strict weak : ℕ} {a : Answer} → Lent s strict weak a → a ≡ Done → Enough s strict weak
@@ -77,16 +69,6 @@ pub lent-judged : {s : List ℕ} {a : Answer} (strict weak : List ℤ) → Lent 
 lent-judged strict weak (before.Lent.bad-file n) e = calls.Judged.bad-file n
 lent-judged strict weak (before.Lent.short d r) e = calls.Judged.short-room d r
 lent-judged strict weak (before.Lent.enough d r w) e = absurd (e refl)
-
--- the header that was read of a sound file
-pub ready-of : (s : List ℕ) → fileAnswer s ≡ Done → (h : Header) → h ≡ headOf s → Ready s (h .points) (h .limits) (h .links)
-ready-of s d h e =
-    record {
-      sound = d;
-      points = ap (λ (x : Header). x .points) e;
-      limits = ap (λ (x : Header). x .limits) e;
-      links = ap (λ (x : Header). x .links) e;
-    }
 
 -- ---- the work
 

@@ -1,6 +1,5 @@
 -- `faces::post_add` meets its contract: the number of Add's answer, and what Add left. Assumes nothing.
 use Rattle.lowering.proofs.Common.{needs, back}
-use Rattle.adding.proofs.AddAnswers.{weight-back}
 use Rattle.post.proofs.faces.post_add.Statement.{statement}
 use Rattle.post.proofs.faces.post_add.Tie as tie
 
@@ -10,7 +9,7 @@ returns c =
     let add = c .before .before .before .before .add in
     record {
       answer = add .result;
-      meets = weight-back (s .args .file .now) (s .args .x) (s .args .y) (back (s .fits .w)) (add .ensures);
+      meets = rw (back (s .fits .w)) at (add .ensures);
       is = c .packed .ensures;
     }
 

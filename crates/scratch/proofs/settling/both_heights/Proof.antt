@@ -5,43 +5,23 @@ use Rattle.scratch.proofs.ScratchParts.{half-room, front-length, rest}
 use Rattle.scratch.proofs.settling.both_heights.Statement.{statement}
 use Rattle.scratch.proofs.settling.both_heights.Tie as tie
 
-slice-aggregate-height-all : tie.Need-slice-aggregate-height-all
-slice-aggregate-height-all c =
-    let s = c .before in
-    front-length (s .args .n * s .args .n) (s .args .t .now) (half-room (s .pre .1))
-
-height-all-requires-2 : tie.Need-height-all-requires-2
-height-all-requires-2 c κs =
-    let s = c .before .before .before in
-    (omega (arith, square-le (s .pre .0)), rw (rest (s .args .n * s .args .n) (s .args .t .now)) (sound-held (s .pre .1 .weak)))
-
 add-result : tie.Need-add-result
 unfolding adding
 add-result c =
     let s = c .before .before .before .before in
-    let height-all = c .before .before .height-all in
-    let height-all2 = c .height-all2 in
     let cells = s .args .n * s .args .n in
     omega (
       arith,
       square-le (s .pre .0),
-      height-all .ensures,
-      rw (rest (s .args .n * s .args .n) (s .args .t .now)) at (height-all2 .ensures),
+      rw rest at (c .height-all2 .ensures),
       heights-most adding cells (strictPart (s .args .n) (s .args .t .now)) (sound-held (s .pre .1 .strict)) cells (omega arith),
       heights-most adding cells (openPart (s .args .n) (s .args .t .now)) (sound-held (s .pre .1 .weak)) cells (omega arith),
     )
 
-returns : tie.Need-returns
-returns c =
-    let s = c .before .before .before .before in
-    let height-all = c .before .before .height-all in
-    let height-all2 = c .height-all2 in
-    omega (arith, height-all .ensures, rw (rest (s .args .n * s .args .n) (s .args .t .now)) at (height-all2 .ensures))
-
 pub both-heights-spec : {M : Type 1} → statement M
 both-heights-spec =
     tie.close
-    (tie.spec (λ c. search needs) slice-aggregate-height-all
-    (λ c κs. (omega (arith, square-le (c .before .pre .0)), sound-held (c .before .pre .1 .strict)))
-    (λ c. search needs) (λ c. search needs) (λ c. search needs) (λ c. search needs) height-all-requires-2 add-result
-    returns)
+    (tie.spec (λ c. search needs) (λ c. search (front-length, half-room)) (λ c κs. search (arith, square-le, sound-held))
+    (λ c. search needs) (λ c. search needs) (λ c. search needs) (λ c. search needs)
+    (λ c κs. search (arith, square-le, sound-held, rest)) add-result
+    (λ c. omega (arith, rw rest at (c .height-all2 .ensures))))

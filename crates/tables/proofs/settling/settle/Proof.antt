@@ -1,6 +1,7 @@
--- `settling::settle` meets its contract. The loop's invariant: both tables stand as before a round, and the local is how far the strict one can still fall, which is the
--- measure. Assumes nothing.
-use Rattle.lowering.proofs.Common.{_≡_, sym, _∙_, not-true, not-false, _*_, arith, version1, heights, few, looked-yes, looked-no}
+-- `settling::settle` meets its contract. The loop's invariant: both tables stand as before a round, and the local is how far the strict one
+-- can still fall, which is the measure. Assumes nothing.
+use Rattle.lowering.proofs.Common.{_≡_, refl, sym, _∙_, not-true, not-false, _*_, arith, version1, heights, few, looked-yes, looked-no}
+use Rattle.lowering.specs.Table.{Sound}
 use Rattle.tables.proofs.SettleLoop.{Standing, standing-here, standing-after, standing-strict, standing-open, first-sound, standing-first}
 use Rattle.tables.proofs.SettleLoop.{round-sound, round-falls, standing-on, standing-ends, standing-unfair}
 use Rattle.tables.proofs.settling.settle.Statement.{statement}
@@ -13,158 +14,59 @@ Inv-loop file n m k strict₀ open₀ last₀ strict «open» last =
 abbrev μ-loop : tie.MeasureT-loop
 μ-loop file n m k strict₀ open₀ last₀ strict «open» last = last
 
-opened-requires : tie.Need-opened-requires Inv-loop μ-loop
-opened-requires c κs =
-    let s = c .before .before .before .before .before .before in
-    let joined-strict = c .before .before .before .joined-strict in
-    (s .pre .0, first-sound (s .pre .0) (s .args .strict .now) (s .pre .1) (joined-strict .ensures), s .pre .2)
-
-strict-height-requires : tie.Need-strict-height-requires Inv-loop μ-loop
-strict-height-requires c κs =
-    let s = c .before .before .before .before .before .before .before .before .before in
-    let joined-strict = c .before .before .before .before .before .before .joined-strict in
-    (few (s .pre .0), first-sound (s .pre .0) (s .args .strict .now) (s .pre .1) (joined-strict .ensures))
-
 loop-holds : tie.Need-loop-holds Inv-loop μ-loop
 loop-holds c =
     let s = c .before .before .before .before .before .before .before .before .before .before in
-    let joined-strict = c .before .before .before .before .before .before .before .joined-strict in
-    let opened = c .before .before .before .opened in
-    let strict-height = c .strict-height in
-    (standing-here (standing-first (s .pre .0) (s .args .strict .now) (s .pre .1) (joined-strict .ensures) (s .args .«open» .now) (s .pre .2) (opened .ensures)), strict-height .ensures)
+    (standing-here (standing-first (s .pre .0) (s .args .strict .now) (s .pre .1) (search) (s .args .«open» .now) (s .pre .2) (search)), search)
 
-both-fair-requires : tie.Need-both-fair-requires Inv-loop μ-loop
-both-fair-requires c κs =
-    let s = c .before .before .before .before .before .before .before .before .before .before .before .before .before in
-    let loop = c .before .before .loop in
-    (few (s .pre .0), standing-strict (s .pre .0) (loop .inv .0), standing-open (s .pre .0) (loop .inv .0))
+-- the call, seen from a turn of the loop
+abbrev call : tie.At-loop Inv-loop μ-loop → tie.Start Inv-loop μ-loop
+call turn = turn .before .before .before .before .before .before .before .before .before .before .before
 
-same-length : tie.Need-same-length Inv-loop μ-loop
-same-length c =
-    let s = c .before .before .before .before .before .before .before .before .before .before .before .before .before .before .before in
-    let joined-strict = c .before .before .before .before .before .before .before .before .before .before .before .before .joined-strict in
-    let opened = c .before .before .before .before .before .before .before .before .opened in
-    let loop = c .before .before .before .before .loop in
-    let here = standing-after (standing-first (s .pre .0) (s .args .strict .now) (s .pre .1) (joined-strict .ensures) (s .args .«open» .now) (s .pre .2) (opened .ensures)) (loop .inv .0) in
-    here .strict-kept .length-same
-
-same-length-2 : tie.Need-same-length-2 Inv-loop μ-loop
-same-length-2 c =
-    let s = c .before .before .before .before .before .before .before .before .before .before .before .before .before .before .before in
-    let joined-strict = c .before .before .before .before .before .before .before .before .before .before .before .before .joined-strict in
-    let opened = c .before .before .before .before .before .before .before .before .opened in
-    let loop = c .before .before .before .before .loop in
-    let here = standing-after (standing-first (s .pre .0) (s .args .strict .now) (s .pre .1) (joined-strict .ensures) (s .args .«open» .now) (s .pre .2) (opened .ensures)) (loop .inv .0) in
-    here .open-kept .length-same
+-- at every turn both tables stand, past the room as they were lent
+here : (turn : tie.At-loop Inv-loop μ-loop)
+    → let a = call turn .args in
+    Standing (a .file .now) (a .m) (a .k) (a .strict .now) (a .«open» .now) (turn .loop .strict) (turn .loop .«open»)
+here turn = search (standing-after, standing-first)
 
 returns : tie.Need-returns Inv-loop μ-loop
-returns c =
-    let s = c .before .before .before .before .before .before .before .before .before .before .before .before .before .before .before in
-    let joined-strict = c .before .before .before .before .before .before .before .before .before .before .before .before .joined-strict in
-    let opened = c .before .before .before .before .before .before .before .before .opened in
-    let loop = c .before .before .before .before .loop in
-    let both-fair = c .before .both-fair in
-    let if1 = c .if1 in
-    let here = standing-after (standing-first (s .pre .0) (s .args .strict .now) (s .pre .1) (joined-strict .ensures) (s .args .«open» .now) (s .pre .2) (opened .ensures)) (loop .inv .0) in
-    looked-no (standing-unfair (s .pre .0) here (both-fair .ensures .fails (not-true (both-fair .result) (if1 .taken))))
+returns c = search (looked-no, standing-unfair, here (c .before .before .before .before), c .before .both-fair .ensures .fails, not-true)
 
-strict-round-requires : tie.Need-strict-round-requires Inv-loop μ-loop
-strict-round-requires c κs =
-    let s = c .before .before .before .before .before .before .before .before .before .before .before .before .before .before .before .before in
-    let loop = c .before .before .before .before .before .loop in
-    search (s .pre .0, standing-strict (s .pre .0) (loop .inv .0), standing-open (s .pre .0) (loop .inv .0))
-
-strict-height-requires-2 : tie.Need-strict-height-requires-2 Inv-loop μ-loop
-strict-height-requires-2 c κs =
-    let s = c .before .before .before .before .before .before .before .before .before .before .before .before .before .before .before .before .before .before .before in
-    let loop = c .before .before .before .before .before .before .before .before .loop in
-    let strict-round = c .before .before .strict-round in
-    let strict = standing-strict (s .pre .0) (loop .inv .0) in
-    let «open» = standing-open (s .pre .0) (loop .inv .0) in
-    let round = round-sound (s .pre .0) _ _ (search (strict, «open»)) (strict-round .ensures) in
-    search (few (s .pre .0), round, strict)
-
-same-length-3 : tie.Need-same-length-3 Inv-loop μ-loop
-same-length-3 c =
-    let s = c .before .before .before .before .before .before .before .before .before .before .before .before .before .before .before .before .before .before .before .before .before in
-    let joined-strict = c .before .before .before .before .before .before .before .before .before .before .before .before .before .before .before .before .before .before .joined-strict in
-    let opened = c .before .before .before .before .before .before .before .before .before .before .before .before .before .before .opened in
-    let loop = c .before .before .before .before .before .before .before .before .before .before .loop in
-    let both-fair = c .before .before .before .before .before .before .before .both-fair in
-    let if1 = c .before .before .before .before .before .before .if1 in
-    let strict-round = c .before .before .before .before .strict-round in
-    let strict-height2 = c .before .strict-height2 in
-    let if2 = c .if2 in
-    let here = standing-after (standing-first (s .pre .0) (s .args .strict .now) (s .pre .1) (joined-strict .ensures) (s .args .«open» .now) (s .pre .2) (opened .ensures)) (loop .inv .0) in
-    let both = both-fair .ensures .holds (not-false (both-fair .result) (if1 .left)) in
-    let written = standing-ends (s .pre .0) here (strict-round .ensures) (sym (strict-height2 .ensures) ∙ (if2 .taken ∙ loop .inv .1)) (both .0) (both .1) in
-    written .strict-kept .length-same
-
-same-length-4 : tie.Need-same-length-4 Inv-loop μ-loop
-same-length-4 c =
-    let s = c .before .before .before .before .before .before .before .before .before .before .before .before .before .before .before .before .before .before .before .before .before in
-    let joined-strict = c .before .before .before .before .before .before .before .before .before .before .before .before .before .before .before .before .before .before .joined-strict in
-    let opened = c .before .before .before .before .before .before .before .before .before .before .before .before .before .before .opened in
-    let loop = c .before .before .before .before .before .before .before .before .before .before .loop in
-    let both-fair = c .before .before .before .before .before .before .before .both-fair in
-    let if1 = c .before .before .before .before .before .before .if1 in
-    let strict-round = c .before .before .before .before .strict-round in
-    let strict-height2 = c .before .strict-height2 in
-    let if2 = c .if2 in
-    let here = standing-after (standing-first (s .pre .0) (s .args .strict .now) (s .pre .1) (joined-strict .ensures) (s .args .«open» .now) (s .pre .2) (opened .ensures)) (loop .inv .0) in
-    let both = both-fair .ensures .holds (not-false (both-fair .result) (if1 .left)) in
-    let written = standing-ends (s .pre .0) here (strict-round .ensures) (sym (strict-height2 .ensures) ∙ (if2 .taken ∙ loop .inv .1)) (both .0) (both .1) in
-    written .open-kept .length-same
+-- after a round the strict table is one that a sweep stores
+round-stored : (c : tie.After-strict-round Inv-loop μ-loop)
+    → Sound version1 (call (c .before .before .before .before .before .before) .args .n) (c .strict-round .last .1 .1 .1 .1 .0)
+round-stored c = search (round-sound, standing-strict)
 
 returns-2 : tie.Need-returns-2 Inv-loop μ-loop
 returns-2 c =
-    let s = c .before .before .before .before .before .before .before .before .before .before .before .before .before .before .before .before .before .before .before .before .before in
-    let joined-strict = c .before .before .before .before .before .before .before .before .before .before .before .before .before .before .before .before .before .before .joined-strict in
-    let opened = c .before .before .before .before .before .before .before .before .before .before .before .before .before .before .opened in
-    let loop = c .before .before .before .before .before .before .before .before .before .before .loop in
-    let both-fair = c .before .before .before .before .before .before .before .both-fair in
-    let if1 = c .before .before .before .before .before .before .if1 in
-    let strict-round = c .before .before .before .before .strict-round in
-    let strict-height2 = c .before .strict-height2 in
-    let if2 = c .if2 in
-    let here = standing-after (standing-first (s .pre .0) (s .args .strict .now) (s .pre .1) (joined-strict .ensures) (s .args .«open» .now) (s .pre .2) (opened .ensures)) (loop .inv .0) in
-    let both = both-fair .ensures .holds (not-false (both-fair .result) (if1 .left)) in
-    let written = standing-ends (s .pre .0) here (strict-round .ensures) (sym (strict-height2 .ensures) ∙ (if2 .taken ∙ loop .inv .1)) (both .0) (both .1) in
-    looked-yes written
-
-open-round-requires : tie.Need-open-round-requires Inv-loop μ-loop
-open-round-requires c κs =
-    let s = c .before .before .before .before .before .before .before .before .before .before .before .before .before .before .before .before .before .before .before .before .before .before .before in
-    let loop = c .before .before .before .before .before .before .before .before .before .before .before .before .loop in
-    let strict-round = c .before .before .before .before .before .before .strict-round in
-    let strict = standing-strict (s .pre .0) (loop .inv .0) in
-    let «open» = standing-open (s .pre .0) (loop .inv .0) in
-    let round = round-sound (s .pre .0) _ _ (search (strict, «open»)) (strict-round .ensures) in
-    search (s .pre .0, round, strict, «open»)
+    let round = c .before .before .before .before in
+    let look = round .before .before .before in
+    let turn = look .before .before .before in
+    let fair = look .both-fair .ensures .holds (not-false _ (round .before .before .if1 .left)) in
+    looked-yes
+    (standing-ends (call turn .pre .0) (here turn) (round .strict-round .ensures)
+    (sym (c .before .strict-height2 .ensures) ∙ (c .if2 .taken ∙ turn .loop .inv .1)) (fair .0) (fair .1))
 
 loop-less : tie.Need-loop-less Inv-loop μ-loop
 loop-less c =
-    let s = c .before .before .before .before .before .before .before .before .before .before .before .before .before .before .before .before .before .before .before .before .before .before .before .before .before in
-    let loop = c .before .before .before .before .before .before .before .before .before .before .before .before .before .before .loop in
-    let strict-round = c .before .before .before .before .before .before .before .before .strict-round in
-    let strict-height2 = c .before .before .before .before .before .strict-height2 in
-    let if2 = c .before .before .before .before .if2 in
-    omega (arith, round-falls (s .pre .0) (loop .inv .0) (strict-round .ensures), strict-height2 .ensures, loop .inv .1, if2 .left)
+    let round = c .before .before .before .before .before .before .before .before in
+    let turn = round .before .before .before .before .before .before in
+    omega (arith, round-falls (call turn .pre .0) (turn .loop .inv .0) (round .strict-round .ensures))
 
 loop-again : tie.Need-loop-again Inv-loop μ-loop
 loop-again c =
-    let s = c .before .before .before .before .before .before .before .before .before .before .before .before .before .before .before .before .before .before .before .before .before .before .before .before .before in
-    let loop = c .before .before .before .before .before .before .before .before .before .before .before .before .before .before .loop in
-    let strict-round = c .before .before .before .before .before .before .before .before .strict-round in
-    let strict-height2 = c .before .before .before .before .before .strict-height2 in
-    let open-round = c .before .open-round in
-    (standing-on (s .pre .0) (loop .inv .0) (strict-round .ensures) (open-round .ensures), strict-height2 .ensures)
+    let height = c .before .before .before .before .before in
+    let round = height .before .before .before in
+    let turn = round .before .before .before .before .before .before in
+    (standing-on (call turn .pre .0) (turn .loop .inv .0) (round .strict-round .ensures) (c .before .open-round .ensures), height .strict-height2 .ensures)
 
 pub settle-spec : {M : Type 1} → statement M
 settle-spec =
     tie.close
     (tie.spec Inv-loop μ-loop
-    (λ c κs. (c .before .before .pre .0, c .before .before .pre .1))
-    opened-requires strict-height-requires loop-holds both-fair-requires same-length same-length-2 returns
-    strict-round-requires strict-height-requires-2 same-length-3 same-length-4 returns-2 open-round-requires loop-less
-    loop-again)
+    (λ c κs. search) (λ c κs. search first-sound) (λ c κs. search (few, first-sound)) loop-holds
+    (λ c κs. search (few, standing-strict, standing-open))
+    (λ c. returns c .fails refl .strict-kept .length-same) (λ c. returns c .fails refl .open-kept .length-same) returns
+    (λ c κs. search standing-strict) (λ c κs. search (few, round-stored (c .before .before)))
+    (λ c. returns-2 c .holds refl .strict-kept .length-same) (λ c. returns-2 c .holds refl .open-kept .length-same) returns-2
+    (λ c κs. search (round-stored (c .before .before .before .before .before .before), standing-open)) loop-less loop-again)

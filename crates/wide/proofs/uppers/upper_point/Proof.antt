@@ -1,5 +1,5 @@
 -- `uppers::upper_point` meets its contract: a turn for each link. Assumes nothing.
-use Rattle.lowering.proofs.Common.{needs, _-_, arith, adding, linkAt, upperPoint, Turns, turns-none, turns-more, turns-all, few, link-read, link-points, at-read}
+use Rattle.lowering.proofs.Common.{needs, _-_, arith, adding, linkAt, upperPoint, Turns, turns-none, turns-more, turns-all, few, link-read, link-points}
 use Rattle.wide.proofs.AddStart.{adding-coherent}
 use Rattle.lowering.specs.Sweep.{upperCell}
 use Rattle.lowering.proofs.Theory.SweepSteps.{upper-cell-lowers}
@@ -12,27 +12,16 @@ Inv-loop file n m k t₀ x i₀ t i = Turns adding n k (λ i. upperCell adding n
 abbrev μ-loop : tie.MeasureT-loop
 μ-loop file n m k t₀ x i₀ t i = k - i
 
-upper-cell-requires : tie.Need-upper-cell-requires Inv-loop μ-loop
-upper-cell-requires c κs =
-    let s = c .before .before .before .before .before in
-    let loop = c .before .before .before .loop in
-    let link-of = c .before .link-of in
-    (s .pre .0, few (s .pre .1), link-read (s .pre .1) (loop .i) (omega arith) (link-of .ensures), loop .inv .lowered .sound)
-
 loop-again : tie.Need-loop-again Inv-loop μ-loop
 loop-again c =
     let s = c .before .before .before .before .before .before .before in
-    let loop = c .before .before .before .before .before .loop in
-    let link-of = c .before .before .before .link-of in
-    let upper-cell = c .before .upper-cell in
-    turns-more (upper-cell-lowers adding adding-coherent (s .args .n) (linkAt (s .args .file .now) (s .args .m)) (s .args .k) (link-points (s .pre .1)) (s .args .x) (s .pre .0)) (loop .inv) (omega arith)
-    (at-read (λ a. upperCell adding (s .args .n) (s .args .x) a (loop .t)) (link-of .ensures) (upper-cell .ensures))
+    turns-more (upper-cell-lowers adding adding-coherent _ _ _ (link-points (s .pre .1)) _ (s .pre .0))
+    (c .before .before .before .before .before .loop .inv) (omega arith) (cc)
 
 pub upper-point-spec : {M : Type 1} → statement M
 unfolding upperPoint
 upper-point-spec =
     tie.close
     (tie.spec Inv-loop μ-loop
-    (λ c. turns-none (c .before .pre .2))
-    (λ c κs. search needs) upper-cell-requires (λ c. search needs) (λ c. search needs) loop-again (λ c. search needs)
-    (λ c. turns-all (c .before .loop .inv) (omega arith)))
+    (λ c. search turns-none) (λ c κs. search needs) (λ c κs. search (few, link-read, arith)) (λ c. search needs)
+    (λ c. search needs) loop-again (λ c. search needs) (λ c. search (turns-all, arith)))
