@@ -1,5 +1,4 @@
 -- Laws that the walks through the scratch cite.
-pub mod CellsCopied
 pub mod ScratchParts
 pub mod AddSweeps
 pub mod AddBegins

@@ -102,10 +102,6 @@ link-points {s} {n} {m} {k} r =
 pub pair-at : (r : Ranges) (n : ℕ) {a a′ b b′ : Link} (t : List ℤ) {u : List ℤ} → a ≡ a′ → b ≡ b′ → u ≡ lowerPair r n a b t → u ≡ lowerPair r n a′ b′ t
 pair-at r n t ea eb eu = rw (← ea, ← eb) eu
 
--- a step of two links with both as they were read
-pub at-both : (f : Link → Link → List ℤ) {a a′ b b′ : Link} {u : List ℤ} → a ≡ a′ → b ≡ b′ → u ≡ f a b → u ≡ f a′ b′
-at-both f ea eb eu = rw (← ea, ← eb) eu
-
 -- a step with its record as it was read
 pub at-read : {A : Type 0} (f : A → List ℤ) {a a′ : A} {u : List ℤ} → a ≡ a′ → u ≡ f a → u ≡ f a′
 at-read f e eu = eu ∙ ap f e

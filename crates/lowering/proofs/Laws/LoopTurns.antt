@@ -1,6 +1,6 @@
 -- Laws that the walks through the code cite: one lowering, a row that a mark leaves alone, and the turns of a loop that applies a step for each
--- number below m. Over any coherent ranges, so at any width. Assumes nothing.
-use mathlib.Core.Path.{_≡_, refl, sym, ap, subst, _∙_}
+-- of some numbers, or for each below m. Over any coherent ranges, so at any width. Assumes nothing.
+use mathlib.Core.Path.{_≡_, refl, sym, ap, _∙_}
 use mathlib.Core.List.{List}
 use Prim.Native.Nat.{ℕ, zero, suc, _+_, _*_, _≤_, _<_}
 use native.Mathlib.Numerals.{add-one}
@@ -57,73 +57,59 @@ pub lowering-to-mark : (r : Ranges) (n x y : ℕ) (t : List ℤ) → lowerCell r
 unfolding lowerCell tableOf
 lowering-to-mark r n x y t = ap (set t (x * n + y)) (number-back (r .mark) (getD t (x * n + y) (pos zero))) ∙ set-getD t (x * n + y) (pos zero)
 
--- a row whose cell to the middle is the mark stays as it is
-pub row-at-mark : (r : Ranges) (n y x : ℕ) (t : List ℤ) → tableOf r n t x y ≡ mark → joinRow r n y x t ≡ t
+-- a row whose cell to the middle was read as the mark stays as it is
+pub row-at-mark : (r : Ranges) (n y x : ℕ) (t : List ℤ) (a : ℤ) → a ≡ getD t (x * n + y) (pos zero) → cellOf (r .mark) a ≡ mark → t ≡ joinRow r n y x t
 unfolding joinRow joinCell
-row-at-mark r n y x t e = subst (λ (a : Cell). iter (joinCell r n y x a) n t ≡ t) (sym e) (all n)
+row-at-mark r n y x t a ea e = rw (sym (read-cell r n x y t a ea) ∙ e) (sym (all n))
   where
     all : (m : ℕ) → iter (joinCell r n y x mark) m t ≡ t
     all zero = refl
     all (suc m) = lowering-to-mark r n x m (iter (joinCell r n y x mark) m t) ∙ all m
 
--- i of the m turns of a loop that applies f to a table
-pub record Turns (r : Ranges) (n m : ℕ) (f : ℕ → List ℤ → List ℤ) (i : ℕ) (start now : List ℤ) : Type 0 where
-  pub bound : i ≤ m
-  pub is : now ≡ iter f i start
-  pub lowered : Lowered r n start now
+-- ---- the turns of a loop that applies a step f to a table
 
--- none yet
-pub turns-none : {r : Ranges} {n m : ℕ} {f : ℕ → List ℤ → List ℤ} {t : List ℤ} → Sound r n t → Turns r n m f 0 t t
-turns-none {r} {n} {m} {f} {t} s = record { bound = omega arith; is = refl; lowered = lowered-refl r n t s }
-
--- one more
-pub turns-more : {r : Ranges} {n m : ℕ} {f : ℕ → List ℤ → List ℤ} {i : ℕ} {start now next : List ℤ} → Lowers r n m f
-    → Turns r n m f i start now → i < m → next ≡ f i now → Turns r n m f (i + 1) start next
-turns-more {r} {n} {m} {f} {i} {start} {now} {next} l t h e =
-    record {
-      bound = omega arith;
-      is = rw (add-one i) (e ∙ ap (f i) (t .is));
-      lowered =
-          subst (λ (u : List ℤ). Lowered r n start u) (sym e)
-          (lowered-trans r n start now (f i now) (t .lowered) (l i h now (t .lowered .sound)));
-    }
-
--- all of them
-pub turns-all : {r : Ranges} {n m : ℕ} {f : ℕ → List ℤ → List ℤ} {i : ℕ} {start now : List ℤ} → Turns r n m f i start now → m ≤ i
-    → now ≡ iter f m start
-turns-all {r} {n} {m} {f} {i} {start} {now} t h =
-    let e : i ≡ m = omega (arith, t .bound) in
-    subst (λ (k : ℕ). now ≡ iter f k start) e (t .is)
-
--- i turns of a loop that applies f to a table from the first on and before the last
+-- a loop over the numbers from the first on and before the last has come to i
 pub record Stretch (r : Ranges) (n : ℕ) (f : ℕ → List ℤ → List ℤ) (first last i : ℕ) (start now : List ℤ) : Type 0 where
   pub bound : i ≤ last
   pub is : Between f first i start now
   pub lowered : Lowered r n start now
 
--- none yet
-pub stretch-none : {r : Ranges} {n : ℕ} {f : ℕ → List ℤ → List ℤ} {first last : ℕ} {t : List ℤ} → first ≤ last → Sound r n t
-    → Stretch r n f first last first t t
-stretch-none {r} {n} {f} {first} {last} {t} h s = record { bound = h; is = λ u e. e; lowered = lowered-refl r n t s }
+module _ {r : Ranges} {n : ℕ} {f : ℕ → List ℤ → List ℤ} where
+  -- no turn yet
+  pub stretch-none : {first last : ℕ} {t : List ℤ} → first ≤ last → Sound r n t → Stretch r n f first last first t t
+  stretch-none {t = t} h s = record { bound = h; is = λ u e. e; lowered = lowered-refl r n t s }
 
--- one more
-pub stretch-more : {r : Ranges} {n m : ℕ} {f : ℕ → List ℤ → List ℤ} {first last i : ℕ} {start now next : List ℤ} → Lowers r n m f → last ≤ m
-    → Stretch r n f first last i start now → i < last → next ≡ f i now → Stretch r n f first last (i + 1) start next
-stretch-more {r} {n} {m} {f} {first} {last} {i} {start} {now} {next} l hm t h e =
-    record {
-      bound = omega arith;
-      is = λ s q. rw (add-one i) (e ∙ ap (f i) (t .is s q));
-      lowered =
-          subst (λ (u : List ℤ). Lowered r n start u) (sym e)
-          (lowered-trans r n start now (f i now) (t .lowered) (l i (omega arith) now (t .lowered .sound)));
-    }
+  module _ {first last i : ℕ} {start now : List ℤ} where
+    -- one more
+    pub stretch-more : {m : ℕ} {next : List ℤ} → Lowers r n m f → last ≤ m → Stretch r n f first last i start now → i < last → next ≡ f i now
+        → Stretch r n f first last (i + 1) start next
+    stretch-more l hm t h e =
+        record {
+          bound = omega arith;
+          is = λ s q. rw (add-one i) (e ∙ ap (f i) (t .is s q));
+          lowered = rw e (lowered-trans r n start now (f i now) (t .lowered) (l i (omega arith) now (t .lowered .sound)));
+        }
 
--- all of them
-pub stretch-all : {r : Ranges} {n : ℕ} {f : ℕ → List ℤ → List ℤ} {first last i : ℕ} {start now : List ℤ} → Stretch r n f first last i start now → last ≤ i
-    → Between f first last start now
-stretch-all {r} {n} {f} {first} {last} {i} {start} {now} t h s q =
-    let e : i ≡ last = omega (arith, t .bound) in
-    subst (λ (k : ℕ). now ≡ iter f k s) e (t .is s q)
+    -- all of them
+    pub stretch-all : Stretch r n f first last i start now → last ≤ i → Between f first last start now
+    stretch-all t h s q =
+        let e : i ≡ last = omega (arith, t .bound) in
+        rw (← e) (t .is s q)
+
+-- a loop over the numbers below m has come to i
+abbrev pub Turns : Ranges → ℕ → ℕ → (ℕ → List ℤ → List ℤ) → ℕ → List ℤ → List ℤ → Type 0
+Turns r n m f i start now = Stretch r n f 0 m i start now
+
+module _ {r : Ranges} {n m : ℕ} {f : ℕ → List ℤ → List ℤ} where
+  pub turns-none : {t : List ℤ} → Sound r n t → Turns r n m f 0 t t
+  turns-none s = stretch-none (omega arith) s
+
+  module _ {i : ℕ} {start now : List ℤ} where
+    pub turns-more : {next : List ℤ} → Lowers r n m f → Turns r n m f i start now → i < m → next ≡ f i now → Turns r n m f (i + 1) start next
+    turns-more l t h e = stretch-more l (omega arith) t h e
+
+    pub turns-all : Turns r n m f i start now → m ≤ i → now ≡ iter f m start
+    turns-all t h = stretch-all t h start refl
 
 -- ---- steps before one, that one, and those after it
 

@@ -28,10 +28,7 @@ module _ (s : List ℕ) (n m k : ℕ) (r : Ready s n m k) where
   pub ready-weighted : Weighted (version1 .weight) (planOf s)
   ready-weighted = in-range-weighted ranges
 
-  -- at least one point, and few enough
-  pub ready-some : 1 ≤ n
-  ready-some = omega (arith, ranges .some-point, ready-points)
-
+  -- its points are few enough
   pub ready-few : n ≤ version1 .points
   ready-few = omega (arith, ranges .points, ready-points)
 

@@ -12,7 +12,7 @@ use Rattle.plan.specs.Layout.{limitAt, linkAt}
 use Rattle.lowering.specs.Table.{Sound, Ready}
 use Rattle.lowering.specs.Sweep.{lowerCell, markAll, diagonalAll, limitCell, limitAll, startAll, linkEdges, linkAll, firstStrict}
 use Rattle.lowering.specs.Spread.{lowerRound, followLowers}
-use Rattle.lowering.proofs.Theory.LoweredTables.{iter-lowered}
+use Rattle.lowering.proofs.Theory.LoweredTables.{Lowers, iter-lowered}
 use Rattle.lowering.proofs.Theory.SweepSteps.{diagonal-lowers, start-lowers, limit-lowers, edges-lowers}
 use Rattle.lowering.proofs.Theory.SpreadSteps.{lower-round-lowered, follow-lowers-lowers}
 use Rattle.lowering.proofs.Laws.ReadyFile.{limit-range}
@@ -21,6 +21,15 @@ use Rattle.lowering.proofs.Laws.FirstAsRead.{marks-sound}
 
 pub sound-marks : {n : ℕ} (t : List ℤ) {u : List ℤ} → n * n ≤ length t → u ≡ markAll version1 (n * n) t → Sound version1 n u
 sound-marks {n} t h e = rw e (marks-sound version1 n t h)
+
+-- every limit's cell and every link's edges are steps that lower
+module _ {s : List ℕ} {n m k : ℕ} (r : Ready s n m k) where
+  pub limit-cells-lower : Lowers version1 n m (λ i. limitCell version1 n (limitAt s i))
+  limit-cells-lower =
+      limit-lowers version1 version1-coherent n (limitAt s) m (λ i q. limit-range s n m k r i q .from) (λ i q. limit-range s n m k r i q .to)
+
+  pub link-edges-lower : Lowers version1 n k (λ i. linkEdges version1 n (linkAt s m i))
+  link-edges-lower = edges-lowers version1 version1-coherent n (linkAt s m) k (link-points r)
 
 module _ {n : ℕ} {t u : List ℤ} where
   pub sound-diagonal : Sound version1 n t → u ≡ diagonalAll version1 n t → Sound version1 n u
@@ -46,18 +55,11 @@ module _ {n : ℕ} {t u : List ℤ} where
 
     pub sound-links : Sound version1 n t → u ≡ linkAll version1 n (linkAt s m) k t → Sound version1 n u
     unfolding linkAll
-    sound-links h e =
-        rw e
-        (iter-lowered version1 n k (λ i. linkEdges version1 n (linkAt s m i)) (edges-lowers version1 version1-coherent n (linkAt s m) k (link-points r))
-        t h .sound)
+    sound-links h e = rw e (iter-lowered version1 n k (λ i. linkEdges version1 n (linkAt s m i)) (link-edges-lower r) t h .sound)
 
     pub sound-limits : Sound version1 n t → u ≡ limitAll version1 n (limitAt s) m t → Sound version1 n u
     unfolding limitAll
-    sound-limits h e =
-        rw e
-        (iter-lowered version1 n m (λ i. limitCell version1 n (limitAt s i))
-        (limit-lowers version1 version1-coherent n (limitAt s) m (λ i q. limit-range s n m k r i q .from) (λ i q. limit-range s n m k r i q .to))
-        t h .sound)
+    sound-limits h e = rw e (iter-lowered version1 n m (λ i. limitCell version1 n (limitAt s i)) (limit-cells-lower r) t h .sound)
 
 pub sound-first : {n : ℕ} {s : List ℕ} {m k : ℕ} → Ready s n m k → (t : List ℤ) {u : List ℤ} → n * n ≤ length t
     → u ≡ firstStrict version1 n (limitAt s) m (linkAt s m) k t → Sound version1 n u

@@ -6,7 +6,7 @@ use Rattle.rules.specs.Cells.{_+ᶜ_}
 use Rattle.cell.specs.Steps.{Decides}
 use Rattle.cell.proofs.CellMethods.{is-mark, decided-yes}
 use Rattle.closed.proofs.CellTests.{row-at-mark, decides-sum}
-use Rattle.closed.proofs.TestLoops.{Tried, none-tried, tried-more, tried-failed, all-tried}
+use Rattle.lowering.proofs.Laws.TestLoops.{Tried, none-tried, tried-more, tried-failed, all-tried}
 use Rattle.closed.proofs.joins.row_joined.Statement.{statement}
 use Rattle.closed.proofs.joins.row_joined.Tie as tie
 
@@ -52,13 +52,13 @@ sum-decided c =
 loop-again : tie.Need-loop-again Inv-loop μ-loop
 loop-again c =
     let loop = c .before .before .before .before .before .loop in
-    ⊎-elim (λ q. rw (q .1) (tried-failed _ _ (loop .z) (loop .inv) (omega arith) (sum-decided (c .before)) (q .0 .taken)))
-    (λ q. rw (q .1) (tried-more _ _ (loop .z) (loop .inv) (omega arith) (sum-decided (c .before)) (q .0 .left))) (c .if2 .came)
+    ⊎-elim (λ q. rw (q .1) (tried-failed (loop .inv) (omega arith) (sum-decided (c .before)) (q .0 .taken)))
+    (λ q. rw (q .1) (tried-more (loop .inv) (omega arith) (sum-decided (c .before)) (q .0 .left))) (c .if2 .came)
 
 pub row-joined-spec : {M : Type 1} → statement M
 row-joined-spec =
     tie.close
     (tie.spec Inv-loop μ-loop
-    (λ c κs. search needs) (λ c κs. search needs) returns (λ c. none-tried _ _) (λ c κs. search needs) add-requires
+    (λ c κs. search needs) (λ c κs. search needs) returns (λ c. none-tried) (λ c κs. search needs) add-requires
     (λ c κs. search needs) (λ c. search needs) (λ c. search needs) loop-again
-    (λ c. all-tried _ _ (c .before .loop .z) (c .before .loop .inv) (omega arith)))
+    (λ c. all-tried (c .before .loop .inv) (omega arith)))

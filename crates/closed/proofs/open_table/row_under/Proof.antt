@@ -3,25 +3,9 @@ use Rattle.closed.proofs.Common.{needs, _-_, arith, version1, _≤ᶜ_,
 use Rattle.closed.proofs.open_table.row_under.Statement.{statement}
 use Rattle.closed.proofs.open_table.row_under.Tie as tie
 
-abbrev Inv-loop : tie.InvT-loop
-Inv-loop strict weak n x y₀ y = Passed n (λ y. tableOf version1 n weak x y ≤ᶜ tableOf version1 n strict x y) y
-
-abbrev μ-loop : tie.MeasureT-loop
-μ-loop strict weak n x y₀ y = n - y
-
-returns : tie.Need-returns Inv-loop μ-loop
-returns c =
-    let loop = c .before .before .before .loop in
-    one-failed _ _ (loop .y) (omega arith) (c .before .cell-under .ensures) (c .if1 .taken)
-
-loop-again : tie.Need-loop-again Inv-loop μ-loop
-loop-again c =
-    let loop = c .before .before .before .loop in
-    one-more _ _ (loop .y) (loop .inv) (omega arith) (c .before .cell-under .ensures) (c .if1 .left)
-
 pub row-under-spec : {M : Type 1} → statement M
 row-under-spec =
     tie.close
-    (tie.spec Inv-loop μ-loop
-    (λ c. none-yet _ _) (λ c κs. search needs) returns (λ c. search needs) (λ c. search needs) loop-again
-    (λ c. all-passed _ _ (c .before .loop .y) (c .before .loop .inv) (omega arith)))
+    (tie.spec (λ strict weak n x y₀ y. Passed n (λ y. tableOf version1 n weak x y ≤ᶜ tableOf version1 n strict x y) y) (λ strict weak n x y₀ y. n - y)
+    (λ c. none-yet) (λ c κs. search needs) (λ c. search (one-failed (c .before .before .before .loop .inv), needs)) (λ c. search needs)
+    (λ c. search needs) (λ c. search (one-more, needs)) (λ c. all-passed (c .before .loop .inv) (omega arith)))

@@ -1,47 +1,19 @@
 -- `looks::height_all` meets its contract: the sum is that of the cells passed, and stays small. Assumes nothing.
-use Rattle.lowering.proofs.Common.{needs, _≡_, refl, ap, _∙_, _+_, _-_, _≤_, arith, version1, heights, held-read, heights-most, heights-more}
+use Rattle.lowering.proofs.Common.{needs, _-_, arith, version1, held-read, Summing, summing-none, summing-more, summing-most, summing-all}
 use Rattle.joining.proofs.looks.height_all.Statement.{statement}
 use Rattle.joining.proofs.looks.height_all.Tie as tie
 
-abbrev Inv-loop : tie.InvT-loop
-Inv-loop t count sum₀ i₀ sum i = (i ≤ count) × (sum ≡ heights version1 i t)
-
-abbrev μ-loop : tie.MeasureT-loop
-μ-loop t count sum₀ i₀ sum i = count - i
-
-loop-holds : tie.Need-loop-holds Inv-loop μ-loop
-unfolding heights
-loop-holds c = (omega arith, refl)
-
-height-requires : tie.Need-height-requires Inv-loop μ-loop
-height-requires c κs =
-    let s = c .before .before .before in
-    let loop = c .before .before .loop in
-    let cell-at = c .cell-at in
-    held-read (s .pre .1) (loop .i) (omega arith) (cell-at .ensures)
-
-add-sum : tie.Need-add-sum Inv-loop μ-loop
-unfolding version1
-add-sum c =
-    let s = c .before .before .before .before in
-    let loop = c .before .before .before .loop in
-    let cell-at = c .before .cell-at in
-    let height = c .height in
-    omega (arith, heights-more version1 (s .args .t .now) (loop .i) (cell-at .ensures) (height .ensures) (loop .inv .1), heights-most version1 (s .args .count) (s .args .t .now) (s .pre .1) (loop .i + 1) (omega arith))
-
-loop-again : tie.Need-loop-again Inv-loop μ-loop
-loop-again c =
-    let s = c .before .before .before .before in
-    let loop = c .before .before .before .loop in
-    let cell-at = c .before .cell-at in
-    let height = c .height in
-    (omega arith, heights-more version1 (s .args .t .now) (loop .i) (cell-at .ensures) (height .ensures) (loop .inv .1))
-
 pub height-all-spec : {M : Type 1} → statement M
+unfolding version1
 height-all-spec =
     tie.close
-    (tie.spec Inv-loop μ-loop
-    loop-holds
+    (tie.spec (λ t count sum₀ i₀ sum i. Summing version1 count t i sum) (λ t count sum₀ i₀ sum i. count - i)
+    (λ c. summing-none)
     (λ c κs. omega (arith, c .before .before .pre .1 .room, c .loop-test .taken))
-    height-requires add-sum (λ c. search needs) (λ c. search needs) loop-again
-    (λ c. c .before .loop .inv .1 ∙ ap (λ i. heights version1 i (c .before .before .args .t .now)) (omega arith)))
+    (λ c κs. held-read {r = version1} (c .before .before .before .pre .1) (c .before .before .loop .i) (omega arith) (c .cell-at .ensures))
+    (λ c.
+    let s = c .before .before .before .before in
+    let loop = c .before .before .before .loop in
+    omega (arith, summing-most (loop .inv) (omega arith) (c .before .cell-at .ensures) (c .height .ensures) (s .pre .1)))
+    (λ c. search needs) (λ c. search needs) (λ c. search (summing-more, needs))
+    (λ c. search (summing-all, needs)))

@@ -1,19 +1,10 @@
 -- `opening::follow_lower` meets its contract: an edge of the strict cell that was read. Assumes nothing.
-use Rattle.lowering.proofs.Common.{needs, version1, linkOf}
+use Rattle.lowering.proofs.Common.{needs}
 use Rattle.lowering.proofs.Laws.LinksAsRead.{follow-lower-is}
 use Rattle.tables.proofs.opening.follow_lower.Statement.{statement}
 use Rattle.tables.proofs.opening.follow_lower.Tie as tie
 
-returns : tie.Need-returns
-returns c =
-    let s = c .before .before .before .before .before .before in
-    let get = c .before .before .before .get in
-    let new-edge = c .before .new-edge in
-    follow-lower-is version1 (s .args .n) (s .args .strict .now) (linkOf (s .args .a)) (linkOf (s .args .b)) (s .args .t .now) (new-edge .last .0)
-    (get .result .v) (get .ensures) (new-edge .ensures)
-
 pub follow-lower-spec : {M : Type 1} → statement M
 follow-lower-spec =
     tie.close
-    (tie.spec (λ c. search needs) (λ c. search needs) (λ c κs. search needs) (λ c κs. search needs)
-    (λ c. search needs) returns)
+    (tie.spec (λ c. search needs) (λ c. search needs) (λ c κs. search needs) (λ c κs. search needs) (λ c. search needs) (λ c. search (follow-lower-is, needs)))

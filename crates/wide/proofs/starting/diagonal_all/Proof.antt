@@ -1,31 +1,14 @@
 -- `starting::diagonal_all` meets its contract: a turn for each point. Assumes nothing.
-use Rattle.lowering.proofs.Common.{needs, _-_, arith, adding, num, pos, lowerCell, diagonalAll, diagonal-lowers, lowering-by, Turns, turns-none, turns-more, turns-all}
+use Rattle.lowering.proofs.Common.{needs, _-_, adding, num, pos, lowerCell, diagonalAll, diagonal-lowers, lowering-by, Turns, turns-none, turns-more, turns-all}
 use Rattle.wide.proofs.AddStart.{adding-coherent}
 use Rattle.wide.proofs.WideCells.{span-cell}
 use Rattle.wide.proofs.starting.diagonal_all.Statement.{statement}
 use Rattle.wide.proofs.starting.diagonal_all.Tie as tie
 
-abbrev Inv-loop : tie.InvT-loop
-Inv-loop t₀ n x₀ t x = Turns adding n n (λ x. lowerCell adding n x x (num (pos 0))) x t₀ t
-
-abbrev μ-loop : tie.MeasureT-loop
-μ-loop t₀ n x₀ t x = n - x
-
-loop-again : tie.Need-loop-again Inv-loop μ-loop
-loop-again c =
-    let s = c .before .before .before .before .before .before in
-    let loop = c .before .before .before .before .before .loop in
-    let of = c .before .before .of in
-    let lower-cell = c .before .lower-cell in
-    turns-more (diagonal-lowers adding adding-coherent (s .args .n)) (loop .inv) (omega arith)
-    (lowering-by adding (s .args .n) (loop .x) (loop .x) (loop .t) (lower-cell .last .0) (of .result .v) (span-cell (omega arith) (of .ensures)) (lower-cell .ensures))
-
 pub diagonal-all-spec : {M : Type 1} → statement M
 unfolding diagonalAll
 diagonal-all-spec =
     tie.close
-    (tie.spec Inv-loop μ-loop
-    (λ c. turns-none (c .pre .1))
-    (λ c κs. search needs) (λ c κs. search needs) (λ c. search needs) (λ c. search needs) loop-again
-    (λ c. search needs)
-    (λ c. turns-all (c .before .loop .inv) (omega arith)))
+    (tie.spec (λ t₀ n x₀ t x. Turns adding n n (λ x. lowerCell adding n x x (num (pos 0))) x t₀ t) (λ t₀ n x₀ t x. n - x)
+    (λ c. turns-none (c .pre .1)) (λ c κs. search needs) (λ c κs. search needs) (λ c. search needs) (λ c. search needs)
+    (λ c. search (turns-more, diagonal-lowers adding adding-coherent, lowering-by, span-cell, needs)) (λ c. search needs) (λ c. search (turns-all, needs)))
