@@ -129,7 +129,7 @@ module _ (p : Plan) (r : Ranges) (h : Coherent r) (g : Pointed p) (link : ℕ �
 
   -- with every lower-case edge taken
   pub cases-taken : Taken (Carried (Open p) p r) r (p .points) v (caseEdges r (p .points) link count v)
-  cases-taken = keeps (open-edges p r h) (case-steps p r h link count (l .links)) v copied-carried
+  cases-taken = keeps (open-edges p r h) (case-steps p r link count (l .links) (open-edges p r h)) v copied-carried
 
   -- it is under what is stored of the strict table
   cases-stored : (x y : ℕ) → x < p .points → y < p .points
@@ -150,7 +150,7 @@ module _ (p : Plan) (r : Ranges) (h : Coherent r) (g : Pointed p) (link : ℕ �
             given-stays g (cases-taken .low) (λ x y w e. let q : Ends p x y = given-ends p g e in rw (cell x y (q .from) (q .to)) (given x y w e));
         open-cases = λ f i hi.
             let o = case-rule p r link count (l .links) i hi in
-            reached (open-edges p r h) o (case-steps p r h link count (l .links)) (i, hi, rule-reaches (open-edges p r h) o) v copied-carried f;
+            reached (open-edges p r h) o (case-steps p r link count (l .links) (open-edges p r h)) (i, hi, rule-reaches (open-edges p r h) o) v copied-carried f;
         open-lower = λ f i j hi hj. cases-stored (link i .act) (link j .con) (l .links .points .act-below i hi) (l .links .points .con-below j hj);
         open-upper = λ f x i hx hi. cases-stored x (link i .act) hx (l .links .points .act-below i hi);
       }

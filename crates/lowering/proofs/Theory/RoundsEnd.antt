@@ -27,7 +27,7 @@ use Rattle.lowering.proofs.Theory.WalksKept.{Has, Walked, PlanLinks}
 use Rattle.lowering.proofs.Theory.StoredNumbers.{exact}
 use Rattle.lowering.proofs.Theory.StillSweep.{given-stays, AllLinks, each-link, two-links}
 use Rattle.lowering.proofs.Theory.StepsTaken.{Taken, Steps, one, both, each, Among, Rule, Puts, keeps, reached, rule-keeps, rule-reaches, still-obeys}
-use Rattle.lowering.proofs.Theory.CellRules.{lower-rule, lower-steps, lower-among, upper-rule, case-rule, strict-rule}
+use Rattle.lowering.proofs.Theory.CellRules.{lower-rule, lower-steps, lower-among, upper-rule, case-rule, lower-cell, upper-cell}
 use Rattle.lowering.proofs.Theory.SpreadSteps.{edge-keeps}
 use Rattle.lowering.proofs.Theory.SpreadKeepsJoined.{Shut, Full, edge-shut, edge-under}
 
@@ -87,8 +87,6 @@ module _ (E : ℕ → ℕ → ℤ → Type 0) (p : Plan) (r : Ranges) (h : Coher
   edges-taken =
       record { walks = λ t s. s .walks; before = λ t u s d f. fair-before (s .walks .sound) d f; puts = edge-carried; down = edge-down }
 
--- ---- rounds
-
 module _ (p : Plan) (r : Ranges) (h : Coherent r) where
   pub strict-edges : Puts (Derivable p) r (p .points) (Carried (Derivable p) p r) (Fair r (p .points)) (newEdge r (p .points))
   strict-edges = edges-taken (Derivable p) p r h (λ x z s k. as-open k)
@@ -96,35 +94,30 @@ module _ (p : Plan) (r : Ranges) (h : Coherent r) where
   pub open-edges : Puts (Open p) r (p .points) (Carried (Open p) p r) (Fair r (p .points)) (newEdge r (p .points))
   open-edges = edges-taken (Open p) p r h (λ x z s k. k)
 
-module _ (p : Plan) (r : Ranges) (h : Coherent r) (link : ℕ → Link) (count : ℕ) (l : PlanLinks p link count) where
+-- ---- rounds, whatever taking an edge keeps
+
+module _ (p : Plan) (r : Ranges) (link : ℕ → Link) (count : ℕ) (l : PlanLinks p link count) {P Q : List ℤ → Type 0} where
   -- the strict table: Lower, Upper
-  unfoldable pub strict-steps : Steps (Carried (Derivable p) p r) r (p .points) (strictRound r (p .points) link count)
+  unfoldable pub strict-steps : Puts (Derivable p) r (p .points) P Q (newEdge r (p .points)) → Steps P r (p .points) (strictRound r (p .points) link count)
   unfolding strictRound lowerRound lowerEdges lowerEdge upperRound upperEdges upperEdge
-  strict-steps =
-      both (lower-steps p r link count l (strict-edges p r h))
-      (each count (λ i hi. each (p .points) (λ x hx. one (rule-keeps (strict-edges p r h) (upper-rule p r link count l x i hx hi)))))
+  strict-steps w =
+      both (lower-steps p r link count l w)
+      (each count (λ i hi. each (p .points) (λ x hx. one (rule-keeps w (upper-rule p r link count l x i hx hi)))))
 
-  -- the open one, to begin with: the lower-case edges
-  unfoldable pub case-steps : Steps (Carried (Open p) p r) r (p .points) (caseEdges r (p .points) link count)
-  unfolding caseEdges caseEdge
-  case-steps = each count (λ i hi. one (rule-keeps (open-edges p r h) (case-rule p r link count l i hi)))
+  module _ (w : Puts (Open p) r (p .points) P Q (newEdge r (p .points))) where
+    -- the open one, to begin with: the lower-case edges
+    unfoldable pub case-steps : Steps P r (p .points) (caseEdges r (p .points) link count)
+    unfolding caseEdges caseEdge
+    case-steps = each count (λ i hi. one (rule-keeps w (case-rule p r link count l i hi)))
 
-  -- and in each round: the strict cells wherever Lower leads, and wherever Upper does
-  module _ (strict : List ℤ) (w : Walked (Derivable p) r (p .points) strict) where
-    pub lower-cell : (i j : ℕ) → i < count → j < count
-        → Rule (Open p) r (p .points) (link i .act) (link j .con) (λ t. tableOf r (p .points) strict (link i .act) (link j .con))
-    lower-cell i j hi hj = strict-rule p r link count l strict w (link i .act) (link j .con) (l .points .act-below i hi) (l .points .con-below j hj)
-
-    pub upper-cell : (x i : ℕ) → x < p .points → i < count
-        → Rule (Open p) r (p .points) x (link i .act) (λ t. tableOf r (p .points) strict x (link i .act))
-    upper-cell x i hx hi = strict-rule p r link count l strict w x (link i .act) hx (l .points .act-below i hi)
-
-    unfoldable pub open-steps : Steps (Carried (Open p) p r) r (p .points) (openRound r (p .points) strict link count)
+    -- and in each round: the strict cells wherever Lower leads, and wherever Upper does
+    unfoldable pub open-steps : (strict : List ℤ) → Walked (Derivable p) r (p .points) strict
+        → Steps P r (p .points) (openRound r (p .points) strict link count)
     unfolding openRound followLink followLowers followLower followUppers followUpper
-    open-steps =
+    open-steps strict k =
         each count (λ i hi.
-        both (each count (λ j hj. one (rule-keeps (open-edges p r h) (lower-cell i j hi hj))))
-        (each (p .points) (λ x hx. one (rule-keeps (open-edges p r h) (upper-cell x i hx hi)))))
+        both (each count (λ j hj. one (rule-keeps w (lower-cell p r link count l strict k i j hi hj))))
+        (each (p .points) (λ x hx. one (rule-keeps w (upper-cell p r link count l strict k x i hx hi)))))
 
 -- ---- where the rounds stand, and how they end
 
@@ -147,7 +140,7 @@ module _ (p : Plan) (r : Ranges) (h : Coherent r) (g : Pointed p) (link : ℕ �
   at t x y = tableOf r (p .points) t x y
 
   abbrev steps : Steps (Carried (Derivable p) p r) r (p .points) (strictRound r (p .points) link count)
-  steps = strict-steps p r h link count (l .links)
+  steps = strict-steps p r link count (l .links) (strict-edges p r h)
 
   -- a round of both
   pub rounds-on : Rounds p r link count (strictRound r (p .points) link count strict)
@@ -158,7 +151,8 @@ module _ (p : Plan) (r : Ranges) (h : Coherent r) (g : Pointed p) (link : ℕ �
       let v : List ℤ = openRound r (p .points) u link count weak in
       let tu : Taken (Carried (Derivable p) p r) r (p .points) strict u = keeps (strict-edges p r h) steps strict (s .strict-carried) in
       let w : Walked (Derivable p) r (p .points) u = tu .holds .walks in
-      let follow : Steps (Carried (Open p) p r) r (p .points) (openRound r (p .points) u link count) = open-steps p r h link count (l .links) u w in
+      let follow : Steps (Carried (Open p) p r) r (p .points) (openRound r (p .points) u link count) =
+      open-steps p r link count (l .links) (open-edges p r h) u w in
       let tv : Taken (Carried (Open p) p r) r (p .points) weak v = keeps (open-edges p r h) follow weak (s .open-carried) in
       record {
         strict-carried = tu .holds;
@@ -169,10 +163,10 @@ module _ (p : Plan) (r : Ranges) (h : Coherent r) (g : Pointed p) (link : ℕ �
             lowered-below (tv .low) (link i .act) (link i .con) (l .links .points .act-below i hi) (l .links .points .con-below i hi)
             (clamped (r .reach) (num (pos (link i .short)))) (s .open-cases (fair-before (s .open-carried .walks .sound) (tv .low) f) i hi);
         open-lower = λ f i j hi hj.
-            let o = lower-cell p r h link count (l .links) u w i j hi hj in
+            let o = lower-cell p r link count (l .links) u w i j hi hj in
             reached (open-edges p r h) o follow (i, hi, inl (j, hj, rule-reaches (open-edges p r h) o)) weak (s .open-carried) f;
         open-upper = λ f x i hx hi.
-            let o = upper-cell p r h link count (l .links) u w x i hx hi in
+            let o = upper-cell p r link count (l .links) u w x i hx hi in
             reached (open-edges p r h) o follow (i, hi, inr (x, hx, rule-reaches (open-edges p r h) o)) weak (s .open-carried) f;
       }
 
