@@ -15,7 +15,7 @@ use Rattle.rules.specs.Cells.{mark, num, _≤ᶜ_, cellOf, tableOf}
 use Rattle.rules.specs.Calls.{Kept}
 use Rattle.rules.proofs.Points.{Pointed, Weighted, Ends, given-ends}
 use Rattle.cell.specs.Steps.{clamped}
-use Rattle.cell.proofs.StoredCells.{≤ᶜ-antisym}
+use Rattle.cell.proofs.StoredCells.{≤ᶜ-antisym, clamped-le}
 use Rattle.lowering.specs.Table.{Sound}
 use Rattle.lowering.specs.Fair.{Fair}
 use Rattle.lowering.specs.Sweep.{joinAll, firstStrict, firstOpen}
@@ -29,7 +29,7 @@ use Rattle.lowering.proofs.Theory.StillSweep.{given-stays, AllLinks}
 use Rattle.lowering.proofs.Theory.FirstTables.{AllLimits}
 use Rattle.lowering.proofs.Theory.SweepsEnd.{Going, first-given, first-going, first-strict-kept, lowered-kept, kept-trans}
 use Rattle.lowering.proofs.Theory.OneJoinPass.{warshall-full, warshall-joined}
-use Rattle.lowering.proofs.Theory.SpreadKeepsJoined.{Shut, stored-under}
+use Rattle.lowering.proofs.Theory.SpreadKeepsJoined.{Shut}
 use Rattle.lowering.proofs.Theory.RoundsEnd.{Carried, Rounds, open-edges, case-steps}
 
 -- a copy past the room is as it was
@@ -135,8 +135,8 @@ module _ (p : Plan) (r : Ranges) (h : Coherent r) (g : Pointed p) (link : ℕ �
   cases-stored : (x y : ℕ) → x < p .points → y < p .points
       → tableOf r (p .points) (caseEdges r (p .points) link count v) x y ≤ᶜ clamped (r .reach) (tableOf r (p .points) strict x y)
   cases-stored x y hx hy =
-      stored-under (r .reach) (tableOf r (p .points) (caseEdges r (p .points) link count v) x y) (tableOf r (p .points) strict x y)
-      (cases-taken .low .sound .stored x y hx hy) (rw (cell x y hx hy) at (cases-taken .low .down x y hx hy))
+      lowered-below (cases-taken .low) x y hx hy (clamped (r .reach) (tableOf r (p .points) strict x y))
+      (rw (cell x y hx hy) (clamped-le (r .reach) (tableOf r (p .points) strict x y)))
 
   -- both stand as before a round
   pub rounds-first : Rounds p r link count strict (caseEdges r (p .points) link count v)
