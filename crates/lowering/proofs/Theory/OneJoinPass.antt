@@ -17,17 +17,16 @@ use Rattle.rules.specs.Plan.{Plan, Ranges}
 use Rattle.rules.proofs.Coherence.{Coherent}
 use Rattle.rules.specs.Edges.{Given, Open}
 use Rattle.rules.specs.Walks.{Walk, stay, step, NegativeWalk}
-use Rattle.rules.specs.Cells.{Cell, mark, num, _+ᶜ_, _≤ᶜ_, tableOf}
+use Rattle.rules.specs.Cells.{Cell, num, _+ᶜ_, _≤ᶜ_, tableOf}
 use Rattle.rules.proofs.Cells.{AtMost, at-most, under, sum, raised, by-at-most}
 use Rattle.rules.proofs.Points.{Pointed, Weighted, Ends, given-ends}
 use Rattle.rules.proofs.Shortening.{Trail, stop, go, Short, few, shorten, trail-walk}
 use Rattle.rules.proofs.Reach.{GivenTrail, given-trail, given-most}
 use Rattle.cell.specs.Steps.{clamped}
-use Rattle.cell.proofs.StoredCells.{≤ᶜ-trans, ≤ᶜ-mark}
 use Rattle.lowering.specs.Sweep.{iter, lowerCell, joinMiddle, joinAll}
 use Rattle.lowering.specs.Fair.{Fair}
 use Rattle.lowering.proofs.Theory.LoweredTables.{Lowered, lowered-below, fair-before}
-use Rattle.lowering.proofs.Theory.WalksKept.{Has, has-sum, Walked}
+use Rattle.lowering.proofs.Theory.WalksKept.{has-sum, under-walks, Walked}
 use Rattle.lowering.proofs.Theory.StepsTaken.{Taken, Keeps, Puts, one, each, keeps}
 use Rattle.lowering.proofs.Theory.SweepsTaken.{Any, cells, middle-keeps, middle-reached, joins-keep}
 use Rattle.lowering.proofs.Theory.StoredNumbers.{stored-at-most, exact}
@@ -326,14 +325,7 @@ module _ (p : Plan) (r : Ranges) (h : Coherent r) (g : Pointed p) (b : Weighted 
       → tableOf r (p .points) (joinAll r (p .points) t) x z
       ≤ᶜ (tableOf r (p .points) (joinAll r (p .points) t) x y +ᶜ tableOf r (p .points) (joinAll r (p .points) t) y z)
   warshall-joined fair x y z hx hy hz =
-      by (at x y +ᶜ at y z) (has-sum (Given p) x y z (at x y) (at y z) (joined .has x y hx hy) (joined .has y z hy hz))
-    where
-      joined : Walked (Given p) r (p .points) (joinAll r (p .points) t)
-      joined = joins-keep (Given p) r h (p .points) t w .holds
-
-      at : ℕ → ℕ → Cell
-      at = tableOf r (p .points) (joinAll r (p .points) t)
-
-      by : (d : Cell) → Has (Given p) x z d → at x z ≤ᶜ d
-      by mark k = ≤ᶜ-mark (at x z)
-      by (num d) k = ≤ᶜ-trans (at x z) (num (k .total)) (num d) (walk-exact fair hx hz (k .walk)) (k .le)
+      let at : ℕ → ℕ → Cell = tableOf r (p .points) (joinAll r (p .points) t) in
+      let joined : Walked (Given p) r (p .points) (joinAll r (p .points) t) = joins-keep (Given p) r h (p .points) t w .holds in
+      under-walks (Given p) x z (at x z) (at x y +ᶜ at y z)
+      (has-sum (Given p) x y z (at x y) (at y z) (joined .has x y hx hy) (joined .has y z hy hz)) (λ s k. walk-exact fair hx hz k)

@@ -1,6 +1,6 @@
 -- What rounds of Lower and Upper carry from one to the next, of joined tables: every cell has its walk, every pair that a walk joins has a cell in reach, and a fair table
 -- is joined. And how they end: where a round leaves the strict table as it was and both are fair, they are the plan's tables. Over any coherent ranges. Assumes nothing.
-use mathlib.Core.Path.{_≡_, refl, subst}
+use mathlib.Core.Path.{_≡_, subst}
 use mathlib.Core.Logic.{_≢_, inl, inr}
 use mathlib.Core.List.{List, List·Memᴰ}
 use Prim.Native.Nat.{ℕ, zero, _<_}
@@ -11,19 +11,19 @@ use Rattle.rules.proofs.Coherence.{Coherent}
 use Rattle.rules.specs.Edges as edges
 use Rattle.rules.specs.Edges.{Given, Derivable, Open}
 use Rattle.rules.specs.Walks.{Walk, stay, step}
-use Rattle.rules.specs.Cells.{Cell, mark, num, _≤ᶜ_, lowered, uppered, tableOf}
+use Rattle.rules.specs.Cells.{Cell, num, _≤ᶜ_, lowered, uppered, tableOf}
 use Rattle.rules.specs.Tables.{Tables}
-use Rattle.rules.proofs.Cells.{AtMost, at-most, by-at-most, under, sum, raised, lowered-at-most, uppered-at-most}
+use Rattle.rules.proofs.Cells.{AtMost, at-most, by-at-most, under, sum, lowered-at-most, uppered-at-most}
 use Rattle.rules.proofs.Walks.{single, append, Dominated}
 use Rattle.rules.proofs.Points.{Pointed, derivable-ends}
 use Rattle.rules.proofs.Justified.{justified-closed}
 use Rattle.rules.proofs.TablesClosed.{as-open}
 use Rattle.cell.specs.Steps.{clamped}
-use Rattle.cell.proofs.StoredCells.{≤ᶜ-mark, clamped-within}
+use Rattle.cell.proofs.StoredCells.{clamped-within}
 use Rattle.lowering.specs.Fair.{Fair}
 use Rattle.lowering.specs.Spread.{newEdge, lowerEdge, lowerEdges, lowerRound, upperEdge, upperEdges, upperRound, strictRound, caseEdge, caseEdges, followLower, followLowers, followUpper, followUppers, followLink, openRound}
 use Rattle.lowering.proofs.Theory.LoweredTables.{lowered-below, fair-before}
-use Rattle.lowering.proofs.Theory.WalksKept.{Has, Walked, PlanLinks}
+use Rattle.lowering.proofs.Theory.WalksKept.{Has, under-walks, Walked, PlanLinks}
 use Rattle.lowering.proofs.Theory.StoredNumbers.{exact}
 use Rattle.lowering.proofs.Theory.StillSweep.{given-stays, AllLinks, each-link, two-links}
 use Rattle.lowering.proofs.Theory.StepsTaken.{Taken, Steps, one, both, each, Among, Rule, Puts, keeps, reached, rule-keeps, rule-reaches, still-obeys}
@@ -236,11 +236,9 @@ module _ (p : Plan) (r : Ranges) (h : Coherent r) (g : Pointed p) (link : ℕ �
         under (jw .join x y z hx hy hz) (sum (open-edge e) (open-walk hy hz k))
 
     -- so the open table is under the strict one
-    open-under : (x y : ℕ) → x < p .points → y < p .points → (c : Cell) → at strict x y ≡ c → at weak x y ≤ᶜ c
-    open-under x y hx hy mark e = ≤ᶜ-mark (at weak x y)
-    open-under x y hx hy (num c) e =
-        let d : Dominated (Derivable p) x y c = subst (Has (Derivable p) x y) e (s .strict-carried .walks .has x y hx hy) in
-        by-at-most (raised (open-walk hx hy (d .walk)) (d .le))
+    open-under : (x y : ℕ) → x < p .points → y < p .points → at weak x y ≤ᶜ at strict x y
+    open-under x y hx hy =
+        under-walks (Derivable p) x y (at weak x y) (at strict x y) (s .strict-carried .walks .has x y hx hy) (λ v k. by-at-most (open-walk hx hy k))
 
     case-under : (k : Link) → List·Memᴰ k (p .links) → at weak (k .act) (k .con) ≤ᶜ num (pos (k .short))
     case-under =
@@ -271,6 +269,6 @@ module _ (p : Plan) (r : Ranges) (h : Coherent r) (g : Pointed p) (link : ℕ �
           given = s .strict-given;
           lower = lower-strict;
           upper = upper-strict;
-          open-strict = λ x y hx hy. open-under x y hx hy (at strict x y) refl;
+          open-strict = open-under;
           open-lower-case = case-under;
         })

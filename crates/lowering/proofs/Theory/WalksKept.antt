@@ -10,11 +10,12 @@ use Rattle.rules.specs.Plan.{Link, Plan, Ranges}
 use Rattle.rules.proofs.Coherence.{Coherent}
 use Rattle.rules.specs.Edges as edges
 use Rattle.rules.specs.Edges.{Derivable, Open, spread}
+use Rattle.rules.specs.Walks.{Walk}
 use Rattle.rules.specs.Cells.{Cell, mark, num, _+ᶜ_, _≤ᶜ_, lowered, uppered, tableOf}
 use Rattle.rules.proofs.Walks.{single, replaced, Dominated, weaker, after}
 use Rattle.rules.proofs.Domination.{lower-walk, upper-walk}
 use Rattle.cell.specs.Steps.{clamped}
-use Rattle.cell.proofs.StoredCells.{clamped-le}
+use Rattle.cell.proofs.StoredCells.{≤ᶜ-trans, ≤ᶜ-mark, clamped-le}
 use Rattle.lowering.specs.Sweep.{lowerCell}
 use Rattle.lowering.proofs.Theory.StoredNumbers.{smaller-keeps}
 use Rattle.lowering.specs.Table.{Sound}
@@ -65,6 +66,11 @@ has-in f x y (num c) h = record { total = h .total; walk = replaced (λ x y w e.
 -- a walk of derivable edges is an open one
 pub has-open : (p : Plan) (x y : ℕ) (c : Cell) → Has (Derivable p) x y c → Has (Open p) x y c
 has-open p = has-in (λ x y w e. edges.ordinary e)
+
+-- a cell at most the total of every walk is at most a cell that has its walk
+pub under-walks : (E : ℕ → ℕ → ℤ → Type 0) (x y : ℕ) (c d : Cell) → Has E x y d → ((s : ℤ) → Walk E x y s → c ≤ᶜ num s) → c ≤ᶜ d
+under-walks E x y c mark h below = ≤ᶜ-mark c
+under-walks E x y c (num d) h below = ≤ᶜ-trans c (num (h .total)) (num d) (below (h .total) (h .walk)) (h .le)
 
 -- ---- tables
 
