@@ -20,14 +20,15 @@ use Rattle.rules.specs.Tables.{Closed}
 use Rattle.rules.specs.Additions.{withCells}
 use Rattle.rules.proofs.Cells.{same-number}
 use Rattle.rules.proofs.Walks.{single, Dominated, exactly}
-use Rattle.rules.proofs.Points.{Pointed, Weighted, in-range-pointed, in-range-weighted}
+use Rattle.rules.proofs.Points.{Pointed, Weighted, Ends, given-ends, in-range-pointed, in-range-weighted}
 use Rattle.rules.proofs.CellLimits.{FromCell, table-limit, table-has, cells-pointed}
 use Rattle.cell.specs.Steps.{adding, Stored}
-use Rattle.cell.proofs.StoredCells.{≤ᶜ-refl, ≤ᶜ-trans, clamped-within}
-use Rattle.lowering.specs.Sweep.{lowerCell, limitCell, firstOpen, markAll}
+use Rattle.cell.proofs.StoredCells.{clamped-within}
+use Rattle.lowering.specs.Sweep.{limitCell, firstOpen, markAll}
+use Rattle.lowering.proofs.Theory.LoweredTables.{lowered-below, cell-down}
 use Rattle.lowering.proofs.Theory.WalksKept.{Has, Walked}
-use Rattle.lowering.proofs.Theory.StepsTaken.{Taken, Puts, keeps}
-use Rattle.lowering.proofs.Theory.SweepsTaken.{Any, cells}
+use Rattle.lowering.proofs.Theory.StepsTaken.{Taken, keeps}
+use Rattle.lowering.proofs.Theory.SweepsTaken.{strict-cells, open-cells}
 use Rattle.lowering.proofs.Theory.FirstTables.{marks-walked, diagonal-steps, diagonal-below}
 use Rattle.lowering.proofs.Theory.SweepsEnd.{Going}
 
@@ -124,53 +125,44 @@ module _ (p : Plan) (g : InRange version1 p) (strict weak : Table) (c : Closed v
     limit-has : Has (Derivable (withCells p strict m)) (m .from) (m .to) (num (m .weight))
     limit-has = exactly (single (edges.given (edges.limit (List·Memᴰ·head refl))))
 
-    storing : Puts (Derivable (withCells p strict m)) adding (p .points) (Walked (Derivable (withCells p strict m)) adding (p .points)) Any
-        (lowerCell adding (p .points))
-    storing = cells (Derivable (withCells p strict m)) adding adding-coherent (p .points)
-
     start-taken : Taken (Walked (Derivable (withCells p strict m)) adding (p .points)) adding (p .points) u (limitCell adding (p .points) m u)
     unfolding limitCell
-    start-taken = storing .puts (m .from) (m .to) (num (m .weight)) (i .from) (i .to) limit-has u cells-walked
+    start-taken =
+        strict-cells (withCells p strict m) adding adding-coherent .puts (m .from) (m .to) (num (m .weight)) (i .from) (i .to) limit-has u cells-walked
 
-    -- a cell after the limit is at most the strict one
-    under-cell : (x y : ℕ) → x < p .points → y < p .points → tableOf adding (p .points) (limitCell adding (p .points) m u) x y ≤ᶜ strict x y
-    under-cell x y hx hy =
-        subst (λ (d : Cell). tableOf adding (p .points) (limitCell adding (p .points) m u) x y ≤ᶜ d) (same x y hx hy) (start-taken .low .down x y hx hy)
+    abbrev after : ℕ → ℕ → Cell
+    after x y = tableOf adding (p .points) (limitCell adding (p .points) m u) x y
 
-    under-number : (x y : ℕ) (w : ℤ) → x < p .points → y < p .points → strict x y ≤ᶜ num w
-        → tableOf adding (p .points) (limitCell adding (p .points) m u) x y ≤ᶜ num w
-    under-number x y w hx hy h =
-        ≤ᶜ-trans (tableOf adding (p .points) (limitCell adding (p .points) m u) x y) (strict x y) (num w) (under-cell x y hx hy) h
+    -- a cell after the limit is at most what the strict one is, at most each edge given before, and at most the limit
+    under-number : (x y : ℕ) (w : ℤ) → x < p .points → y < p .points → strict x y ≤ᶜ num w → after x y ≤ᶜ num w
+    under-number x y w hx hy h = lowered-below (start-taken .low) x y hx hy (num w) (rw (same x y hx hy) h)
 
-    new-below : tableOf adding (p .points) (limitCell adding (p .points) m u) (m .from) (m .to) ≤ᶜ num (m .weight)
+    under-given : {x y : ℕ} {w : ℤ} → Given p x y w → after x y ≤ᶜ num w
+    under-given {x} {y} {w} e =
+        let q : Ends p x y = given-ends p (in-range-pointed g) e in
+        under-number x y w (q .from) (q .to) (c .given x y w e)
+
+    new-below : after (m .from) (m .to) ≤ᶜ num (m .weight)
     unfolding limitCell
     new-below =
         rw (clamped-within (adding .reach) (num (m .weight))
         (in-wide (adding-coherent .holds-weight) (new-limit m refl .0), omega (ints, new-limit m refl .1, adding-coherent .holds-weight)))
-        at (storing .down (m .from) (m .to) (num (m .weight)) (i .from) (i .to) limit-has u cells-walked tt)
+        at (cell-down adding adding-coherent (p .points) (m .from) (m .to) (num (m .weight)) u (i .from) (i .to) (cells-walked .sound))
 
-    limit-below : (l : Limit) → List·Memᴰ l (withCells p strict m .limits)
-        → tableOf adding (p .points) (limitCell adding (p .points) m u) (l .from) (l .to) ≤ᶜ num (l .weight)
+    limit-below : (l : Limit) → List·Memᴰ l (withCells p strict m .limits) → after (l .from) (l .to) ≤ᶜ num (l .weight)
     limit-below l h =
-        ⊎-elim
-        (λ e. subst (λ (k : Limit). tableOf adding (p .points) (limitCell adding (p .points) m u) (k .from) (k .to) ≤ᶜ num (k .weight)) (sym e) new-below)
+        ⊎-elim (λ e. subst (λ (k : Limit). after (k .from) (k .to) ≤ᶜ num (k .weight)) (sym e) new-below)
         (λ k.
         let f : FromCell strict (p .points) (p .points) l = table-limit strict (p .points) (p .points) k in
-        under-number (l .from) (l .to) (l .weight) (f .row-below) (f .column-below)
-        (subst (λ (d : Cell). strict (l .from) (l .to) ≤ᶜ d) (f .cell) (≤ᶜ-refl (strict (l .from) (l .to)))))
+        under-number (l .from) (l .to) (l .weight) (f .row-below) (f .column-below) (rw (f .cell) (≤ℤ-refl (l .weight))))
         (List·Memᴰ·cases-cons h)
 
     pub start-below : (x y : ℕ) (w : ℤ) → Given (withCells p strict m) x y w
         → tableOf adding (p .points) (limitCell adding (p .points) m u) x y ≤ᶜ num w
     start-below x y w (edges.limit {m = l} h) = limit-below l h
-    start-below x y w (edges.start h) =
-        under-number x zero (pos zero) h (in-range-pointed g .some-point) (c .given x zero (pos zero) (edges.start h))
-    start-below x y w (edges.longest {k} h) =
-        under-number (k .act) (k .con) (pos (k .long)) (in-range-pointed g .link-act k h) (in-range-pointed g .link-con k h)
-        (c .given (k .act) (k .con) (pos (k .long)) (edges.longest h))
-    start-below x y w (edges.shortest {k} h) =
-        under-number (k .con) (k .act) (negℤ (pos (k .short))) (in-range-pointed g .link-con k h) (in-range-pointed g .link-act k h)
-        (c .given (k .con) (k .act) (negℤ (pos (k .short))) (edges.shortest h))
+    start-below x y w (edges.start h) = under-given (edges.start h)
+    start-below x y w (edges.longest h) = under-given (edges.longest h)
+    start-below x y w (edges.shortest h) = under-given (edges.shortest h)
 
     -- Add's sweeps start
     pub start-going : (v : List ℤ) → p .points * p .points ≤ length v
@@ -182,12 +174,10 @@ module _ (p : Plan) (g : InRange version1 p) (strict weak : Table) (c : Closed v
         record {
           strict-walks = start-taken .holds;
           open-walks =
-              keeps (cells (Open (withCells p strict m)) adding adding-coherent (p .points))
+              keeps (open-cells (withCells p strict m) adding adding-coherent)
               (diagonal-steps (Open (withCells p strict m)) adding adding-coherent (p .points)) (markAll adding (p .points * p .points) v) marked .holds;
           given-below = start-below;
-          strict-diagonal = λ x hx.
-              under-number x x (pos zero) hx hx
-              (subst (λ (d : Cell). d ≤ᶜ num (pos zero)) (sym (c .strict-diagonal x hx)) (≤ℤ-refl (pos zero)));
+          strict-diagonal = λ x hx. under-number x x (pos zero) hx hx (rw (c .strict-diagonal x hx) (≤ℤ-refl (pos zero)));
           open-diagonal =
               diagonal-below (Open (withCells p strict m)) adding adding-coherent (p .points) (markAll adding (p .points * p .points) v) marked;
         }

@@ -51,15 +51,21 @@ module _ (E : ℕ → ℕ → ℤ → Type 0) (r : Ranges) (n : ℕ) where
         falls = λ t u d. +ᶜ-mono (at u x y) (at t x y) (at u y z) (at t y z) (d .down x y hx hy) (d .down y z hy hz);
       }
 
-  -- the same with the way to y as it was read
-  pub read-rule : (x y z : ℕ) (a : Cell) → x < n → y < n → z < n → Has E x y a → Rule E r n x z (λ t. a +ᶜ tableOf r n t y z)
-  read-rule x y z a hx hy hz k =
+  -- what the cell u to v yields
+  pub cell-rule : (u v x y : ℕ) → u < n → v < n → x < n → y < n → (f : Cell → Cell) → ((c : Cell) → Has E u v c → Has E x y (f c))
+      → ((c d : Cell) → c ≤ᶜ d → f c ≤ᶜ f d) → Rule E r n x y (λ t. f (tableOf r n t u v))
+  cell-rule u v x y hu hv hx hy f has mono =
       record {
         from-below = hx;
-        to-below = hz;
-        has = λ t w. has-sum E x y z a (tableOf r n t y z) k (w .has y z hy hz);
-        falls = λ t u d. +ᶜ-mono a a (tableOf r n u y z) (tableOf r n t y z) (≤ᶜ-refl a) (d .down y z hy hz);
+        to-below = hy;
+        has = λ t w. has (tableOf r n t u v) (w .has u v hu hv);
+        falls = λ t u′ d. mono (tableOf r n u′ u v) (tableOf r n t u v) (d .down u v hu hv);
       }
+
+  -- the way from x to y, as it was read, and on to z
+  pub read-rule : (x y z : ℕ) (a : Cell) → x < n → y < n → z < n → Has E x y a → Rule E r n x z (λ t. a +ᶜ tableOf r n t y z)
+  read-rule x y z a hx hy hz k =
+      cell-rule y z x z hy hz hx hz (λ c. a +ᶜ c) (λ c has. has-sum E x y z a c k has) (λ c d le. +ᶜ-mono a a c d (≤ᶜ-refl a) le)
 
 module _ (p : Plan) (r : Ranges) (link : ℕ → Link) (count : ℕ) (l : PlanLinks p link count) where
   abbrev at : List ℤ → ℕ → ℕ → Cell
@@ -69,29 +75,16 @@ module _ (p : Plan) (r : Ranges) (link : ℕ → Link) (count : ℕ) (l : PlanLi
   pub lower-rule : (i j : ℕ) → i < count → j < count → link j .con ≢ link i .con
       → Rule (Derivable p) r (p .points) (link i .act) (link j .con) (λ t. lowered (link i) (link j) (at t (link i .con) (link j .con)))
   lower-rule i j hi hj ne =
-      let x : ℕ = link i .con in
-      let y : ℕ = link j .con in
-      let hx : x < p .points = l .points .con-below i hi in
-      let hy : y < p .points = l .points .con-below j hj in
-      record {
-        from-below = l .points .act-below i hi;
-        to-below = hy;
-        has = λ t w. has-lowered p (link i) (link j) (at t x y) (l .member i hi) (l .member j hj) ne (w .has x y hx hy);
-        falls = λ t u d. lowered-mono (link i) (link j) (at u x y) (at t x y) (d .down x y hx hy);
-      }
+      cell-rule (Derivable p) r (p .points) (link i .con) (link j .con) (link i .act) (link j .con) (l .points .con-below i hi) (l .points .con-below j hj)
+      (l .points .act-below i hi) (l .points .con-below j hj) (lowered (link i) (link j))
+      (λ c has. has-lowered p (link i) (link j) c (l .member i hi) (l .member j hj) ne has) (lowered-mono (link i) (link j))
 
   -- what Upper yields from x for the link i
   pub upper-rule : (x i : ℕ) → x < p .points → i < count
       → Rule (Derivable p) r (p .points) x (link i .act) (λ t. uppered (link i) (at t x (link i .con)))
   upper-rule x i hx hi =
-      let y : ℕ = link i .con in
-      let hy : y < p .points = l .points .con-below i hi in
-      record {
-        from-below = hx;
-        to-below = l .points .act-below i hi;
-        has = λ t w. has-uppered p (link i) x (at t x y) (l .member i hi) (w .has x y hx hy);
-        falls = λ t u d. uppered-mono (link i) (at u x y) (at t x y) (d .down x y hx hy);
-      }
+      cell-rule (Derivable p) r (p .points) x (link i .con) x (link i .act) hx (l .points .con-below i hi) hx (l .points .act-below i hi) (uppered (link i))
+      (λ c has. has-uppered p (link i) x c (l .member i hi) has) (uppered-mono (link i))
 
   -- the lower-case edge of the link i
   pub case-rule : (i : ℕ) → i < count → Rule (Open p) r (p .points) (link i .act) (link i .con) (λ t. num (pos (link i .short)))
@@ -103,6 +96,15 @@ module _ (p : Plan) (r : Ranges) (link : ℕ → Link) (count : ℕ) (l : PlanLi
   pub strict-rule : (strict : List ℤ) → Walked (Derivable p) r (p .points) strict → (x y : ℕ) → x < p .points → y < p .points
       → Rule (Open p) r (p .points) x y (λ t. at strict x y)
   strict-rule strict w x y hx hy = constant-rule (Open p) r (p .points) (at strict x y) hx hy (has-open p x y (at strict x y) (w .has x y hx hy))
+
+  -- where Lower leads for the links i and j, and where Upper leads from x for the link i
+  module _ (strict : List ℤ) (w : Walked (Derivable p) r (p .points) strict) where
+    pub lower-cell : (i j : ℕ) → i < count → j < count
+        → Rule (Open p) r (p .points) (link i .act) (link j .con) (λ t. at strict (link i .act) (link j .con))
+    lower-cell i j hi hj = strict-rule strict w (link i .act) (link j .con) (l .points .act-below i hi) (l .points .con-below j hj)
+
+    pub upper-cell : (x i : ℕ) → x < p .points → i < count → Rule (Open p) r (p .points) x (link i .act) (λ t. at strict x (link i .act))
+    upper-cell x i hx hi = strict-rule strict w x (link i .act) hx (l .points .act-below i hi)
 
   -- Lower for each two links
   module _ {P Q : List ℤ → Type 0} {put : ℕ → ℕ → Cell → List ℤ → List ℤ} (w : Puts (Derivable p) r (p .points) P Q put) where

@@ -1,13 +1,11 @@
 -- The first tables: they have their walks, hold every given edge and 0 at most on the diagonal, and leave what lies past the room. Assumes nothing.
-use mathlib.Core.Path.{_≡_, refl, sym, ap, subst, _∙_}
-use mathlib.Core.Bool.{Bool, true, false, cond}
+use mathlib.Core.Path.{_≡_, refl, ap, subst, _∙_}
 use mathlib.Core.Logic.{inl, inr, ⊎-elim}
 use mathlib.Core.List.{List, List·Memᴰ}
 use Prim.Native.Nat.{ℕ, zero, suc, _+_, _*_, _≤_, _<_}
 use native.Mathlib.Nat.{eq-or-lt-of-le, le-of-suc-le-suc, not-suc-le-zero}
 use native.Mathlib.Omega.{arith}
-use lib.Dec.{T, eqb, eqb-refl}
-use lib.ListN.{length, getD, set, length-set}
+use lib.ListN.{length, getD, length-set}
 use lib.Seq.{getD-set-same, getD-set-other}
 use lib.IntN.{ℤ, pos, negℤ}
 use Rattle.whole.proofs.Order.{ints, neg}
@@ -22,10 +20,10 @@ use Rattle.rules.proofs.Walks.{single, exactly}
 use Rattle.rules.proofs.Points.{Pointed, Weighted, Ends, given-ends}
 use Rattle.rules.proofs.Expansion.{basic-least, basic-given}
 use Rattle.rules.proofs.Reach.{given-most}
-use Rattle.cell.specs.Steps.{Stored}
 use Rattle.lowering.specs.Sweep.{lowerCell, markAll, diagonalAll, limitCell, limitAll, startAll, linkEdges, linkAll, firstStrict}
+use Rattle.cell.proofs.CellMethods.{mark-is}
 use Rattle.cell.proofs.StoredCells.{clamped-within}
-use Rattle.lowering.proofs.Theory.WalksKept.{Has, Walked}
+use Rattle.lowering.proofs.Theory.WalksKept.{Walked}
 use Rattle.lowering.proofs.Theory.StepsTaken.{Steps, one, both, each, Among, Rule, Puts, Taken, keeps, reached, rule-keeps, rule-reaches}
 use Rattle.lowering.proofs.Theory.CellRules.{constant-rule}
 use Rattle.lowering.proofs.Theory.SweepsTaken.{Any, cells}
@@ -41,8 +39,7 @@ pub record AllMark (r : Ranges) (m : ℕ) (t u : List ℤ) : Type 0 where
 
 pub marks : (r : Ranges) (m : ℕ) (t : List ℤ) → m ≤ length t → AllMark r m t (markAll r m t)
 unfolding markAll
-marks r zero t h =
-    record { same-length = refl; beyond = λ i k. refl; all = λ i k. absurd (not-suc-le-zero k) }
+marks r zero t h = record { same-length = refl; beyond = λ i k. refl; all = λ i k. absurd (not-suc-le-zero k) }
 marks r (suc m) t h =
     let u : List ℤ = markAll r m t in
     let w : AllMark r m t u = marks r m t (omega arith) in
@@ -51,19 +48,9 @@ marks r (suc m) t h =
       same-length = length-set u m (pos (r .mark)) ∙ w .same-length;
       beyond = λ i k. getD-set-other u m i (pos (r .mark)) (pos zero) (omega arith) ∙ w .beyond i (omega arith);
       all = λ i k.
-          ⊎-elim
-          (λ e. subst (λ (j : ℕ). getD (set u m (pos (r .mark))) j (pos zero) ≡ pos (r .mark)) (sym e)
-          (getD-set-same u m (pos (r .mark)) (pos zero) room))
+          ⊎-elim (λ e. rw e (getD-set-same u m (pos (r .mark)) (pos zero) room))
           (λ e. getD-set-other u m i (pos (r .mark)) (pos zero) (omega arith) ∙ w .all i e) (eq-or-lt-of-le (le-of-suc-le-suc k));
     }
-
--- the mark's number is read as the mark
-pub mark-cell : (r : Ranges) → cellOf (r .mark) (pos (r .mark)) ≡ mark
-mark-cell r = by (eqb (r .mark) (r .mark)) (eqb-refl (r .mark))
-  where
-    by : (b : Bool) → T b → cond b mark (num (pos (r .mark))) ≡ mark
-    by true t = refl
-    by false t = absurd t
 
 -- marks have their walks
 pub marks-walked : (E : ℕ → ℕ → ℤ → Type 0) (r : Ranges) (n : ℕ) (t : List ℤ) → n * n ≤ length t → Walked E r n (markAll r (n * n) t)
@@ -71,13 +58,10 @@ unfolding tableOf
 marks-walked E r n t h =
     let w : AllMark r (n * n) t (markAll r (n * n) t) = marks r (n * n) t h in
     let is : (x y : ℕ) → x < n → y < n → tableOf r n (markAll r (n * n) t) x y ≡ mark =
-    λ x y hx hy. ap (cellOf (r .mark)) (w .all (x * n + y) (inside hx hy)) ∙ mark-cell r in
+    λ x y hx hy. ap (cellOf (r .mark)) (w .all (x * n + y) (inside hx hy)) ∙ mark-is (r .mark) in
     record {
-      sound = record {
-        room = omega (arith, w .same-length);
-        stored = λ x y hx hy. subst (Stored (r .reach)) (sym (is x y hx hy)) tt;
-      };
-      has = λ x y hx hy. subst (Has E x y) (sym (is x y hx hy)) tt;
+      sound = record { room = omega (arith, w .same-length); stored = λ x y hx hy. rw (is x y hx hy) tt };
+      has = λ x y hx hy. rw (is x y hx hy) tt;
     }
 
 -- ---- the diagonal

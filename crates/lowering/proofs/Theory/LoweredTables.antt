@@ -1,5 +1,5 @@
--- Lowering one cell, and steps made of it: lengths and cells past the room stay, no cell rises, the stored range stays. Steps that leave a list as it was
--- left it so one by one. Over any coherent ranges, so at any width. Assumes nothing.
+-- Lowering one cell, and steps made of it: lengths and cells past the room stay, no cell rises, the stored range stays, and what is fair was so
+-- before. Over any coherent ranges, so at any width. Assumes nothing.
 use mathlib.Core.Path.{_≡_, refl, ap, _∙_}
 use mathlib.Core.Bool.{Bool, true, false, cond}
 use mathlib.Core.Logic.{_⊎_, inl, inr, ⊎-elim}

@@ -2,7 +2,7 @@
 -- middles, a cell is at most the total of every path over points below k: cut where it first comes to k and where it last leaves it, its parts are
 -- such paths before, and what lies between closes on k and so is not below 0. A sum that was left out above the reach is harmless: the same pair is joined by
 -- fewer than n edges over such points, so its cell is in reach. So no cell exceeds the sum of two along a middle point. Assumes nothing.
-use mathlib.Core.Path.{_≡_, refl, sym, subst}
+use mathlib.Core.Path.{_≡_, refl, sym, subst, subst₂}
 use mathlib.Core.Logic.{_⊎_, inl, inr, ⊎-elim}
 use mathlib.Core.List.{List, _∷_, List·Memᴰ, List·Memᴰ·head, List·Memᴰ·tail}
 use Prim.Native.Nat.{ℕ, zero, suc, _+_, _*_, _-_, _≤_, _<_}
@@ -17,17 +17,16 @@ use Rattle.rules.specs.Plan.{Plan, Ranges}
 use Rattle.rules.proofs.Coherence.{Coherent}
 use Rattle.rules.specs.Edges.{Given, Open}
 use Rattle.rules.specs.Walks.{Walk, stay, step, NegativeWalk}
-use Rattle.rules.specs.Cells.{Cell, mark, num, _+ᶜ_, _≤ᶜ_, tableOf}
+use Rattle.rules.specs.Cells.{Cell, num, _+ᶜ_, _≤ᶜ_, tableOf}
 use Rattle.rules.proofs.Cells.{AtMost, at-most, under, sum, raised, by-at-most}
 use Rattle.rules.proofs.Points.{Pointed, Weighted, Ends, given-ends}
 use Rattle.rules.proofs.Shortening.{Trail, stop, go, Short, few, shorten, trail-walk}
 use Rattle.rules.proofs.Reach.{GivenTrail, given-trail, given-most}
 use Rattle.cell.specs.Steps.{clamped}
-use Rattle.cell.proofs.StoredCells.{≤ᶜ-trans, ≤ᶜ-mark}
 use Rattle.lowering.specs.Sweep.{iter, lowerCell, joinMiddle, joinAll}
 use Rattle.lowering.specs.Fair.{Fair}
 use Rattle.lowering.proofs.Theory.LoweredTables.{Lowered, lowered-below, fair-before}
-use Rattle.lowering.proofs.Theory.WalksKept.{Has, has-sum, Walked}
+use Rattle.lowering.proofs.Theory.WalksKept.{has-sum, under-walks, Walked}
 use Rattle.lowering.proofs.Theory.StepsTaken.{Taken, Keeps, Puts, one, each, keeps}
 use Rattle.lowering.proofs.Theory.SweepsTaken.{Any, cells, middle-keeps, middle-reached, joins-keep}
 use Rattle.lowering.proofs.Theory.StoredNumbers.{stored-at-most, exact}
@@ -164,32 +163,20 @@ module _ (p : Plan) (g : Pointed p) where
 
 -- ---- walks as paths
 
--- a path over points below n of total at most s
-record Path≤ (p : Plan) (x z : ℕ) (s : ℤ) : Type 0 where
-  total : ℤ
+-- a path over all points of total s, of some number of edges
+record Whole (p : Plan) (x z : ℕ) (s : ℤ) : Type 0 where
   count : ℕ
-  path : Path p (p .points) x z total count
-  le : total ≤ℤ s
+  path : Path p (p .points) x z s count
 
-module _ (p : Plan) (g : Pointed p) where
-  -- a walk is empty or a path
-  walk-path : {x z : ℕ} {s : ℤ} → Walk (Given p) x z s → ((x ≡ z) × (s ≡ pos zero)) ⊎ Path≤ p x z s
-  walk-path stay = inl (refl, refl)
-  walk-path {x} {z} (step {y} {v} {w} e q) = by (walk-path q)
-    where
-      by : ((y ≡ z) × (w ≡ pos zero)) ⊎ Path≤ p y z w → ((x ≡ z) × ((v +ℤ w) ≡ pos zero)) ⊎ Path≤ p x z (v +ℤ w)
-      by (inl i) = inr (record {
-        total = v;
-        count = 1;
-        path = edge (subst (λ (a : ℕ). Given p x a v) (i .0) e);
-        le = omega (ints, i .1, plus v w);
-      })
-      by (inr t) = inr (record {
-        total = v +ℤ t .total;
-        count = suc (t .count);
-        path = more e (given-ends p g e .to) (t .path);
-        le = omega (ints, t .le, plus v w, plus v (t .total));
-      })
+-- a walk is empty or a path
+walk-path : (p : Plan) → Pointed p → {x z : ℕ} {s : ℤ} → Walk (Given p) x z s → ((x ≡ z) × (s ≡ pos zero)) ⊎ Whole p x z s
+walk-path p g stay = inl (refl, refl)
+walk-path p g {x} {z} (step {y} {v} {w} e q) = inr (by (walk-path p g q))
+  where
+    by : ((y ≡ z) × (w ≡ pos zero)) ⊎ Whole p y z w → Whole p x z (v +ℤ w)
+    by (inl i) =
+        record { count = 1; path = subst₂ (λ (a : ℕ) (t : ℤ). Path p (p .points) x a t 1) (i .0) (omega (ints, i .1, plus v w)) (edge e) }
+    by (inr t) = record { count = suc (t .count); path = more e (given-ends p g e .to) (t .path) }
 
 -- ---- a pass of joins
 
@@ -329,23 +316,16 @@ module _ (p : Plan) (r : Ranges) (h : Coherent r) (g : Pointed p) (b : Weighted 
     unfolding after joinAll
     walk-exact {x} {z} {s} hx hz k = by (walk-path p g k)
       where
-        by : ((x ≡ z) × (s ≡ pos zero)) ⊎ Path≤ p x z s → cell (p .points) x z ≤ᶜ num s
+        by : ((x ≡ z) × (s ≡ pos zero)) ⊎ Whole p x z s → cell (p .points) x z ≤ᶜ num s
         by (inl e) = rw (← e .0, e .1) (lowered-below (after-taken (p .points) (omega arith) .low) x x hx hx (num (pos zero)) (diagonal x hx))
-        by (inr q) = by-at-most (raised (path-exact (p .points) (omega arith) x z (q .total) (q .count) hx hz (q .path)) (q .le))
+        by (inr q) = by-at-most (path-exact (p .points) (omega arith) x z s (q .count) hx hz (q .path))
 
   -- and where nothing speaks against the plan, no cell exceeds the sum of two along a middle point
   pub warshall-joined : Fair r (p .points) (joinAll r (p .points) t) → (x y z : ℕ) → x < p .points → y < p .points → z < p .points
       → tableOf r (p .points) (joinAll r (p .points) t) x z
       ≤ᶜ (tableOf r (p .points) (joinAll r (p .points) t) x y +ᶜ tableOf r (p .points) (joinAll r (p .points) t) y z)
   warshall-joined fair x y z hx hy hz =
-      by (at x y +ᶜ at y z) (has-sum (Given p) x y z (at x y) (at y z) (joined .has x y hx hy) (joined .has y z hy hz))
-    where
-      joined : Walked (Given p) r (p .points) (joinAll r (p .points) t)
-      joined = joins-keep (Given p) r h (p .points) t w .holds
-
-      at : ℕ → ℕ → Cell
-      at = tableOf r (p .points) (joinAll r (p .points) t)
-
-      by : (d : Cell) → Has (Given p) x z d → at x z ≤ᶜ d
-      by mark k = ≤ᶜ-mark (at x z)
-      by (num d) k = ≤ᶜ-trans (at x z) (num (k .total)) (num d) (walk-exact fair hx hz (k .walk)) (k .le)
+      let at : ℕ → ℕ → Cell = tableOf r (p .points) (joinAll r (p .points) t) in
+      let joined : Walked (Given p) r (p .points) (joinAll r (p .points) t) = joins-keep (Given p) r h (p .points) t w .holds in
+      under-walks (Given p) x z (at x z) (at x y +ᶜ at y z)
+      (has-sum (Given p) x y z (at x y) (at y z) (joined .has x y hx hy) (joined .has y z hy hz)) (λ s k. walk-exact fair hx hz k)

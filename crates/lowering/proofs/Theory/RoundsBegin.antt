@@ -15,7 +15,7 @@ use Rattle.rules.specs.Cells.{mark, num, _≤ᶜ_, cellOf, tableOf}
 use Rattle.rules.specs.Calls.{Kept}
 use Rattle.rules.proofs.Points.{Pointed, Weighted, Ends, given-ends}
 use Rattle.cell.specs.Steps.{clamped}
-use Rattle.cell.proofs.StoredCells.{≤ᶜ-antisym}
+use Rattle.cell.proofs.StoredCells.{≤ᶜ-antisym, clamped-le}
 use Rattle.lowering.specs.Table.{Sound}
 use Rattle.lowering.specs.Fair.{Fair}
 use Rattle.lowering.specs.Sweep.{joinAll, firstStrict, firstOpen}
@@ -29,7 +29,7 @@ use Rattle.lowering.proofs.Theory.StillSweep.{given-stays, AllLinks}
 use Rattle.lowering.proofs.Theory.FirstTables.{AllLimits}
 use Rattle.lowering.proofs.Theory.SweepsEnd.{Going, first-given, first-going, first-strict-kept, lowered-kept, kept-trans}
 use Rattle.lowering.proofs.Theory.OneJoinPass.{warshall-full, warshall-joined}
-use Rattle.lowering.proofs.Theory.SpreadKeepsJoined.{Shut, stored-under}
+use Rattle.lowering.proofs.Theory.SpreadKeepsJoined.{Shut}
 use Rattle.lowering.proofs.Theory.RoundsEnd.{Carried, Rounds, open-edges, case-steps}
 
 -- a copy past the room is as it was
@@ -129,14 +129,14 @@ module _ (p : Plan) (r : Ranges) (h : Coherent r) (g : Pointed p) (link : ℕ �
 
   -- with every lower-case edge taken
   pub cases-taken : Taken (Carried (Open p) p r) r (p .points) v (caseEdges r (p .points) link count v)
-  cases-taken = keeps (open-edges p r h) (case-steps p r h link count (l .links)) v copied-carried
+  cases-taken = keeps (open-edges p r h) (case-steps p r link count (l .links) (open-edges p r h)) v copied-carried
 
   -- it is under what is stored of the strict table
   cases-stored : (x y : ℕ) → x < p .points → y < p .points
       → tableOf r (p .points) (caseEdges r (p .points) link count v) x y ≤ᶜ clamped (r .reach) (tableOf r (p .points) strict x y)
   cases-stored x y hx hy =
-      stored-under (r .reach) (tableOf r (p .points) (caseEdges r (p .points) link count v) x y) (tableOf r (p .points) strict x y)
-      (cases-taken .low .sound .stored x y hx hy) (rw (cell x y hx hy) at (cases-taken .low .down x y hx hy))
+      lowered-below (cases-taken .low) x y hx hy (clamped (r .reach) (tableOf r (p .points) strict x y))
+      (rw (cell x y hx hy) (clamped-le (r .reach) (tableOf r (p .points) strict x y)))
 
   -- both stand as before a round
   pub rounds-first : Rounds p r link count strict (caseEdges r (p .points) link count v)
@@ -150,7 +150,7 @@ module _ (p : Plan) (r : Ranges) (h : Coherent r) (g : Pointed p) (link : ℕ �
             given-stays g (cases-taken .low) (λ x y w e. let q : Ends p x y = given-ends p g e in rw (cell x y (q .from) (q .to)) (given x y w e));
         open-cases = λ f i hi.
             let o = case-rule p r link count (l .links) i hi in
-            reached (open-edges p r h) o (case-steps p r h link count (l .links)) (i, hi, rule-reaches (open-edges p r h) o) v copied-carried f;
+            reached (open-edges p r h) o (case-steps p r link count (l .links) (open-edges p r h)) (i, hi, rule-reaches (open-edges p r h) o) v copied-carried f;
         open-lower = λ f i j hi hj. cases-stored (link i .act) (link j .con) (l .links .points .act-below i hi) (l .links .points .con-below j hj);
         open-upper = λ f x i hx hi. cases-stored x (link i .act) hx (l .links .points .act-below i hi);
       }

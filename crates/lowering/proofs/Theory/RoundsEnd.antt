@@ -1,6 +1,6 @@
 -- What rounds of Lower and Upper carry from one to the next, of joined tables: every cell has its walk, every pair that a walk joins has a cell in reach, and a fair table
 -- is joined. And how they end: where a round leaves the strict table as it was and both are fair, they are the plan's tables. Over any coherent ranges. Assumes nothing.
-use mathlib.Core.Path.{_≡_, refl, subst}
+use mathlib.Core.Path.{_≡_, subst}
 use mathlib.Core.Logic.{_≢_, inl, inr}
 use mathlib.Core.List.{List, List·Memᴰ}
 use Prim.Native.Nat.{ℕ, zero, _<_}
@@ -11,23 +11,23 @@ use Rattle.rules.proofs.Coherence.{Coherent}
 use Rattle.rules.specs.Edges as edges
 use Rattle.rules.specs.Edges.{Given, Derivable, Open}
 use Rattle.rules.specs.Walks.{Walk, stay, step}
-use Rattle.rules.specs.Cells.{Cell, mark, num, _≤ᶜ_, lowered, uppered, tableOf}
+use Rattle.rules.specs.Cells.{Cell, num, _≤ᶜ_, lowered, uppered, tableOf}
 use Rattle.rules.specs.Tables.{Tables}
-use Rattle.rules.proofs.Cells.{AtMost, at-most, by-at-most, under, sum, raised, lowered-at-most, uppered-at-most}
+use Rattle.rules.proofs.Cells.{AtMost, at-most, by-at-most, under, sum, lowered-at-most, uppered-at-most}
 use Rattle.rules.proofs.Walks.{single, append, Dominated}
 use Rattle.rules.proofs.Points.{Pointed, derivable-ends}
 use Rattle.rules.proofs.Justified.{justified-closed}
 use Rattle.rules.proofs.TablesClosed.{as-open}
 use Rattle.cell.specs.Steps.{clamped}
-use Rattle.cell.proofs.StoredCells.{≤ᶜ-mark, clamped-within}
+use Rattle.cell.proofs.StoredCells.{clamped-within}
 use Rattle.lowering.specs.Fair.{Fair}
 use Rattle.lowering.specs.Spread.{newEdge, lowerEdge, lowerEdges, lowerRound, upperEdge, upperEdges, upperRound, strictRound, caseEdge, caseEdges, followLower, followLowers, followUpper, followUppers, followLink, openRound}
 use Rattle.lowering.proofs.Theory.LoweredTables.{lowered-below, fair-before}
-use Rattle.lowering.proofs.Theory.WalksKept.{Has, Walked, PlanLinks}
+use Rattle.lowering.proofs.Theory.WalksKept.{Has, under-walks, Walked, PlanLinks}
 use Rattle.lowering.proofs.Theory.StoredNumbers.{exact}
 use Rattle.lowering.proofs.Theory.StillSweep.{given-stays, AllLinks, each-link, two-links}
 use Rattle.lowering.proofs.Theory.StepsTaken.{Taken, Steps, one, both, each, Among, Rule, Puts, keeps, reached, rule-keeps, rule-reaches, still-obeys}
-use Rattle.lowering.proofs.Theory.CellRules.{lower-rule, lower-steps, lower-among, upper-rule, case-rule, strict-rule}
+use Rattle.lowering.proofs.Theory.CellRules.{lower-rule, lower-steps, lower-among, upper-rule, case-rule, lower-cell, upper-cell}
 use Rattle.lowering.proofs.Theory.SpreadSteps.{edge-keeps}
 use Rattle.lowering.proofs.Theory.SpreadKeepsJoined.{Shut, Full, edge-shut, edge-under}
 
@@ -87,8 +87,6 @@ module _ (E : ℕ → ℕ → ℤ → Type 0) (p : Plan) (r : Ranges) (h : Coher
   edges-taken =
       record { walks = λ t s. s .walks; before = λ t u s d f. fair-before (s .walks .sound) d f; puts = edge-carried; down = edge-down }
 
--- ---- rounds
-
 module _ (p : Plan) (r : Ranges) (h : Coherent r) where
   pub strict-edges : Puts (Derivable p) r (p .points) (Carried (Derivable p) p r) (Fair r (p .points)) (newEdge r (p .points))
   strict-edges = edges-taken (Derivable p) p r h (λ x z s k. as-open k)
@@ -96,35 +94,30 @@ module _ (p : Plan) (r : Ranges) (h : Coherent r) where
   pub open-edges : Puts (Open p) r (p .points) (Carried (Open p) p r) (Fair r (p .points)) (newEdge r (p .points))
   open-edges = edges-taken (Open p) p r h (λ x z s k. k)
 
-module _ (p : Plan) (r : Ranges) (h : Coherent r) (link : ℕ → Link) (count : ℕ) (l : PlanLinks p link count) where
+-- ---- rounds, whatever taking an edge keeps
+
+module _ (p : Plan) (r : Ranges) (link : ℕ → Link) (count : ℕ) (l : PlanLinks p link count) {P Q : List ℤ → Type 0} where
   -- the strict table: Lower, Upper
-  unfoldable pub strict-steps : Steps (Carried (Derivable p) p r) r (p .points) (strictRound r (p .points) link count)
+  unfoldable pub strict-steps : Puts (Derivable p) r (p .points) P Q (newEdge r (p .points)) → Steps P r (p .points) (strictRound r (p .points) link count)
   unfolding strictRound lowerRound lowerEdges lowerEdge upperRound upperEdges upperEdge
-  strict-steps =
-      both (lower-steps p r link count l (strict-edges p r h))
-      (each count (λ i hi. each (p .points) (λ x hx. one (rule-keeps (strict-edges p r h) (upper-rule p r link count l x i hx hi)))))
+  strict-steps w =
+      both (lower-steps p r link count l w)
+      (each count (λ i hi. each (p .points) (λ x hx. one (rule-keeps w (upper-rule p r link count l x i hx hi)))))
 
-  -- the open one, to begin with: the lower-case edges
-  unfoldable pub case-steps : Steps (Carried (Open p) p r) r (p .points) (caseEdges r (p .points) link count)
-  unfolding caseEdges caseEdge
-  case-steps = each count (λ i hi. one (rule-keeps (open-edges p r h) (case-rule p r link count l i hi)))
+  module _ (w : Puts (Open p) r (p .points) P Q (newEdge r (p .points))) where
+    -- the open one, to begin with: the lower-case edges
+    unfoldable pub case-steps : Steps P r (p .points) (caseEdges r (p .points) link count)
+    unfolding caseEdges caseEdge
+    case-steps = each count (λ i hi. one (rule-keeps w (case-rule p r link count l i hi)))
 
-  -- and in each round: the strict cells wherever Lower leads, and wherever Upper does
-  module _ (strict : List ℤ) (w : Walked (Derivable p) r (p .points) strict) where
-    pub lower-cell : (i j : ℕ) → i < count → j < count
-        → Rule (Open p) r (p .points) (link i .act) (link j .con) (λ t. tableOf r (p .points) strict (link i .act) (link j .con))
-    lower-cell i j hi hj = strict-rule p r link count l strict w (link i .act) (link j .con) (l .points .act-below i hi) (l .points .con-below j hj)
-
-    pub upper-cell : (x i : ℕ) → x < p .points → i < count
-        → Rule (Open p) r (p .points) x (link i .act) (λ t. tableOf r (p .points) strict x (link i .act))
-    upper-cell x i hx hi = strict-rule p r link count l strict w x (link i .act) hx (l .points .act-below i hi)
-
-    unfoldable pub open-steps : Steps (Carried (Open p) p r) r (p .points) (openRound r (p .points) strict link count)
+    -- and in each round: the strict cells wherever Lower leads, and wherever Upper does
+    unfoldable pub open-steps : (strict : List ℤ) → Walked (Derivable p) r (p .points) strict
+        → Steps P r (p .points) (openRound r (p .points) strict link count)
     unfolding openRound followLink followLowers followLower followUppers followUpper
-    open-steps =
+    open-steps strict k =
         each count (λ i hi.
-        both (each count (λ j hj. one (rule-keeps (open-edges p r h) (lower-cell i j hi hj))))
-        (each (p .points) (λ x hx. one (rule-keeps (open-edges p r h) (upper-cell x i hx hi)))))
+        both (each count (λ j hj. one (rule-keeps w (lower-cell p r link count l strict k i j hi hj))))
+        (each (p .points) (λ x hx. one (rule-keeps w (upper-cell p r link count l strict k x i hx hi)))))
 
 -- ---- where the rounds stand, and how they end
 
@@ -147,7 +140,7 @@ module _ (p : Plan) (r : Ranges) (h : Coherent r) (g : Pointed p) (link : ℕ �
   at t x y = tableOf r (p .points) t x y
 
   abbrev steps : Steps (Carried (Derivable p) p r) r (p .points) (strictRound r (p .points) link count)
-  steps = strict-steps p r h link count (l .links)
+  steps = strict-steps p r link count (l .links) (strict-edges p r h)
 
   -- a round of both
   pub rounds-on : Rounds p r link count (strictRound r (p .points) link count strict)
@@ -158,7 +151,8 @@ module _ (p : Plan) (r : Ranges) (h : Coherent r) (g : Pointed p) (link : ℕ �
       let v : List ℤ = openRound r (p .points) u link count weak in
       let tu : Taken (Carried (Derivable p) p r) r (p .points) strict u = keeps (strict-edges p r h) steps strict (s .strict-carried) in
       let w : Walked (Derivable p) r (p .points) u = tu .holds .walks in
-      let follow : Steps (Carried (Open p) p r) r (p .points) (openRound r (p .points) u link count) = open-steps p r h link count (l .links) u w in
+      let follow : Steps (Carried (Open p) p r) r (p .points) (openRound r (p .points) u link count) =
+      open-steps p r link count (l .links) (open-edges p r h) u w in
       let tv : Taken (Carried (Open p) p r) r (p .points) weak v = keeps (open-edges p r h) follow weak (s .open-carried) in
       record {
         strict-carried = tu .holds;
@@ -169,10 +163,10 @@ module _ (p : Plan) (r : Ranges) (h : Coherent r) (g : Pointed p) (link : ℕ �
             lowered-below (tv .low) (link i .act) (link i .con) (l .links .points .act-below i hi) (l .links .points .con-below i hi)
             (clamped (r .reach) (num (pos (link i .short)))) (s .open-cases (fair-before (s .open-carried .walks .sound) (tv .low) f) i hi);
         open-lower = λ f i j hi hj.
-            let o = lower-cell p r h link count (l .links) u w i j hi hj in
+            let o = lower-cell p r link count (l .links) u w i j hi hj in
             reached (open-edges p r h) o follow (i, hi, inl (j, hj, rule-reaches (open-edges p r h) o)) weak (s .open-carried) f;
         open-upper = λ f x i hx hi.
-            let o = upper-cell p r h link count (l .links) u w x i hx hi in
+            let o = upper-cell p r link count (l .links) u w x i hx hi in
             reached (open-edges p r h) o follow (i, hi, inr (x, hx, rule-reaches (open-edges p r h) o)) weak (s .open-carried) f;
       }
 
@@ -242,11 +236,9 @@ module _ (p : Plan) (r : Ranges) (h : Coherent r) (g : Pointed p) (link : ℕ �
         under (jw .join x y z hx hy hz) (sum (open-edge e) (open-walk hy hz k))
 
     -- so the open table is under the strict one
-    open-under : (x y : ℕ) → x < p .points → y < p .points → (c : Cell) → at strict x y ≡ c → at weak x y ≤ᶜ c
-    open-under x y hx hy mark e = ≤ᶜ-mark (at weak x y)
-    open-under x y hx hy (num c) e =
-        let d : Dominated (Derivable p) x y c = subst (Has (Derivable p) x y) e (s .strict-carried .walks .has x y hx hy) in
-        by-at-most (raised (open-walk hx hy (d .walk)) (d .le))
+    open-under : (x y : ℕ) → x < p .points → y < p .points → at weak x y ≤ᶜ at strict x y
+    open-under x y hx hy =
+        under-walks (Derivable p) x y (at weak x y) (at strict x y) (s .strict-carried .walks .has x y hx hy) (λ v k. by-at-most (open-walk hx hy k))
 
     case-under : (k : Link) → List·Memᴰ k (p .links) → at weak (k .act) (k .con) ≤ᶜ num (pos (k .short))
     case-under =
@@ -277,6 +269,6 @@ module _ (p : Plan) (r : Ranges) (h : Coherent r) (g : Pointed p) (link : ℕ �
           given = s .strict-given;
           lower = lower-strict;
           upper = upper-strict;
-          open-strict = λ x y hx hy. open-under x y hx hy (at strict x y) refl;
+          open-strict = open-under;
           open-lower-case = case-under;
         })

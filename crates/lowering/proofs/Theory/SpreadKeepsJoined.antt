@@ -15,8 +15,8 @@ use Rattle.rules.specs.Plan.{Ranges}
 use Rattle.rules.proofs.Coherence.{Coherent}
 use Rattle.rules.specs.Cells.{Cell, mark, num, _+ᶜ_, _≤ᶜ_, Within, tableOf}
 use Rattle.rules.proofs.Cells.{AtMost, at-most, by-at-most, same-number, mark-no-number}
-use Rattle.cell.specs.Steps.{belowᶜ, smallerᶜ, Stored, clamped}
-use Rattle.cell.proofs.StoredCells.{clamped-within, ≤ᶜ-refl, ≤ᶜ-trans, ≤ᶜ-antisym, ≤ᶜ-mark, +ᶜ-mono, not-below-le, le-not-below, smaller-left, smaller-right}
+use Rattle.cell.specs.Steps.{belowᶜ, smallerᶜ, clamped}
+use Rattle.cell.proofs.StoredCells.{clamped-le, clamped-within, ≤ᶜ-refl, ≤ᶜ-trans, ≤ᶜ-antisym, ≤ᶜ-mark, +ᶜ-mono, not-below-le, le-not-below, smaller-left, smaller-right}
 use Rattle.lowering.specs.Table.{Sound}
 use Rattle.lowering.specs.Fair.{Fair}
 use Rattle.lowering.specs.Sweep.{iter, lowerCell, joinCell}
@@ -30,17 +30,6 @@ pub record Shut (r : Ranges) (n : ℕ) (t : List ℤ) : Type 0 where
   pub join : (x y z : ℕ) → x < n → y < n → z < n → tableOf r n t x z ≤ᶜ (tableOf r n t x y +ᶜ tableOf r n t y z)
 
 -- ---- cells
-
--- a cell that a sweep stores, at most another, is at most what is stored of the other
-pub stored-under : (reach : ℕ) (a c : Cell) → Stored reach a → a ≤ᶜ c → a ≤ᶜ clamped reach c
-stored-under reach a mark s q = ≤ᶜ-mark a
-stored-under reach mark (num c) s q = absurd q
-stored-under reach (num a) (num c) s q = by (clamping reach c)
-  where
-    by : {d : Cell} → Clamping reach c d → num a ≤ᶜ d
-    by (above k) = tt
-    by (below k) = omega (ints, q)
-    by (inside k l) = q
 
 -- what is stored is stored as it is
 clamped-again : (reach : ℕ) (c : Cell) → clamped reach (clamped reach c) ≡ clamped reach c
@@ -57,17 +46,10 @@ clamped-again reach (num c) = by (clamping reach c)
     by (below k) = floor (clamping reach (negsuc reach))
     by (inside k l) = clamped-within reach (num c) (k, l)
 
--- the smaller of two, the second of which is not larger
-smaller-second : (a b : Cell) → b ≤ᶜ a → smallerᶜ a b ≡ b
-smaller-second a b q = rw (le-not-below a b q)
-
-+ᶜ-zero : (c : Cell) → num (pos zero) +ᶜ c ≡ c
-+ᶜ-zero mark = refl
-+ᶜ-zero (num c) = ap num (omega (ints, plus (pos zero) c))
-
-zero-+ᶜ : (c : Cell) → c +ᶜ num (pos zero) ≡ c
-zero-+ᶜ mark = refl
-zero-+ᶜ (num c) = ap num (omega (ints, plus c (pos zero)))
+-- the way over an edge between its own ends
+over-itself : (w : Cell) → (num (pos zero) +ᶜ w) +ᶜ num (pos zero) ≡ w
+over-itself mark = refl
+over-itself (num w) = ap num (omega (ints, plus (pos zero) w, plus (pos zero +ℤ w) (pos zero)))
 
 module _ (r : Ranges) (h : Coherent r) (n : ℕ) where
   abbrev at : List ℤ → ℕ → ℕ → Cell
@@ -159,9 +141,9 @@ module _ (r : Ranges) (h : Coherent r) (n : ℕ) where
                   let le : at t m z ≤ᶜ way a b w t m z =
                   ≤ᶜ-trans (at t m z) (at t m b +ᶜ at t b z) (way a b w t m z) (join m z hm zn)
                   (+ᶜ-mono (at t m b) (at t m a +ᶜ w) (at t b z) (at t b z) (not-below-le (at t m a +ᶜ w) (at t m b) not) (≤ᶜ-refl (at t b z))) in
-                  let same : shortened a b w t m z ≡ at t m z =
-                  smaller-second (clamped (r .reach) (way a b w t m z)) (at t m z)
-                  (stored-under (r .reach) (at t m z) (way a b w t m z) (s .stored m z hm zn) le) in
+                  let stored : at t m z ≤ᶜ clamped (r .reach) (way a b w t m z) =
+                  ≤ᶜ-trans (at t m z) (way a b w t m z) (clamped (r .reach) (way a b w t m z)) le (clamped-le (r .reach) (way a b w t m z)) in
+                  let same : shortened a b w t m z ≡ at t m z = rw (le-not-below (clamped (r .reach) (way a b w t m z)) (at t m z) stored) in
                   rw q (here z zn ∙ sym same))
                   (λ l. p .done x z l xn zn) (eq-or-lt-of-le (le-of-suc-le-suc hx));
               rest = λ x z hx xn zn. p .rest x z (omega arith) xn zn;
@@ -372,5 +354,5 @@ module _ (r : Ranges) (h : Coherent r) (n : ℕ) where
         by (left q) = q
         by (spread q) =
             let same : clamped (r .reach) (way a b w t a b) ≡ w =
-            rw (j .zeros a ha, j .zeros b hb, +ᶜ-zero w, zero-+ᶜ w) (clamped-again (r .reach) c) in
+            rw (j .zeros a ha, j .zeros b hb, over-itself w) (clamped-again (r .reach) c) in
             rw (cells q a b ha hb, same) (smaller-left w (at t a b))

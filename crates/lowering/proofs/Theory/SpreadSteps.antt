@@ -1,4 +1,4 @@
--- Each step of spreading lowers, and keeps the walk of every cell. Over any coherent ranges. Assumes nothing.
+-- Each step of spreading lowers, and an edge that has its walk keeps that every cell has one. Over any coherent ranges. Assumes nothing.
 use mathlib.Core.List.{List}
 use Prim.Native.Nat.{ℕ, zero, _<_}
 use lib.Dec.{eqb}

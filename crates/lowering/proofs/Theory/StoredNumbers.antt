@@ -10,9 +10,9 @@ use Rattle.whole.proofs.Order.{ints, neg}
 use Rattle.rules.specs.Plan.{Ranges}
 use Rattle.rules.proofs.Coherence.{Coherent}
 use Rattle.rules.specs.Cells.{Cell, mark, num, _≤ᶜ_, Within, cellOf}
-use Rattle.rules.proofs.Cells.{AtMost, raised, by-at-most}
+use Rattle.rules.proofs.Cells.{AtMost, at-most, raised, by-at-most}
 use Rattle.cell.specs.Steps.{smallerᶜ, Stored, clamped, numberOf}
-use Rattle.cell.proofs.StoredCells.{≤ᶜ-mark, smaller-is, cell-back}
+use Rattle.cell.proofs.StoredCells.{≤ᶜ-mark, smaller-is, clamped-within, cell-back}
 
 -- whatever holds of both holds of the smaller
 pub smaller-keeps : (P : Cell → Type 0) (a b : Cell) → P a → P b → P (smallerᶜ a b)
@@ -59,16 +59,7 @@ clamped-mono reach (num c) (num d) h = by (clamping reach c) (clamping reach d)
 
 -- what is stored of a cell at most T is at most T, where T is in reach
 pub stored-at-most : (reach : ℕ) (c : Cell) {T : ℤ} → negℤ (pos reach) ≤ℤ T → T ≤ℤ pos reach → AtMost c T → AtMost (clamped reach c) T
-stored-at-most reach mark lo hi a = a
-stored-at-most reach (num c) {T} lo hi a = by (clamping reach c)
-  where
-    c≤T : c ≤ℤ T
-    c≤T = by-at-most a
-
-    by : {d : Cell} → Clamping reach c d → AtMost d T
-    by (above k) = absurd (omega (ints, c≤T))
-    by (below k) = record { value = negsuc reach; is = refl; le = omega (ints, neg (pos reach)) }
-    by (inside k l) = record { value = c; is = refl; le = c≤T }
+stored-at-most reach c {T} lo hi a = at-most (rw (clamped-within reach (num T) (lo, hi)) at (clamped-mono reach c (num T) (by-at-most a)))
 
 -- a cell in reach that is at most what was stored is at most what was meant, where it is in reach at all if that is a number
 pub exact : (reach : ℕ) (cell d : Cell) → Within reach cell → ((c : ℤ) → d ≡ num c → AtMost cell (pos reach)) → cell ≤ᶜ clamped reach d

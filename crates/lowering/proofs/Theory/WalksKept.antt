@@ -10,12 +10,14 @@ use Rattle.rules.specs.Plan.{Link, Plan, Ranges}
 use Rattle.rules.proofs.Coherence.{Coherent}
 use Rattle.rules.specs.Edges as edges
 use Rattle.rules.specs.Edges.{Derivable, Open, spread}
-use Rattle.rules.specs.Cells.{Cell, mark, num, _+ᶜ_, lowered, uppered, tableOf}
+use Rattle.rules.specs.Walks.{Walk}
+use Rattle.rules.specs.Cells.{Cell, mark, num, _+ᶜ_, _≤ᶜ_, lowered, uppered, tableOf}
 use Rattle.rules.proofs.Walks.{single, replaced, Dominated, weaker, after}
 use Rattle.rules.proofs.Domination.{lower-walk, upper-walk}
 use Rattle.cell.specs.Steps.{clamped}
+use Rattle.cell.proofs.StoredCells.{≤ᶜ-trans, ≤ᶜ-mark, clamped-le}
 use Rattle.lowering.specs.Sweep.{lowerCell}
-use Rattle.lowering.proofs.Theory.StoredNumbers.{Clamping, above, below, inside, clamping, smaller-keeps}
+use Rattle.lowering.proofs.Theory.StoredNumbers.{smaller-keeps}
 use Rattle.lowering.specs.Table.{Sound}
 use Rattle.lowering.proofs.Theory.LoweredTables.{cell-lowered, lowering-keeps}
 use Rattle.lowering.proofs.Theory.SweepSteps.{LinkPoints}
@@ -27,14 +29,15 @@ Has E x y (num c) = Dominated E x y c
 
 -- ---- what yields such cells
 
+-- a larger cell
+has-larger : (E : ℕ → ℕ → ℤ → Type 0) (x y : ℕ) (c d : Cell) → c ≤ᶜ d → Has E x y c → Has E x y d
+has-larger E x y c mark le h = tt
+has-larger E x y mark (num d) le h = absurd le
+has-larger E x y (num c) (num d) le h = weaker h le
+
+-- what is stored
 pub has-stored : (E : ℕ → ℕ → ℤ → Type 0) (x y : ℕ) (reach : ℕ) (c : Cell) → Has E x y c → Has E x y (clamped reach c)
-has-stored E x y reach mark h = tt
-has-stored E x y reach (num c) h = by (clamping reach c)
-  where
-    by : {d : Cell} → Clamping reach c d → Has E x y d
-    by (above k) = tt
-    by (below k) = weaker h k
-    by (inside k l) = h
+has-stored E x y reach c h = has-larger E x y c (clamped reach c) (clamped-le reach c) h
 
 pub has-sum : (E : ℕ → ℕ → ℤ → Type 0) (x y z : ℕ) (a b : Cell) → Has E x y a → Has E y z b → Has E x z (a +ᶜ b)
 has-sum E x y z mark b h k = tt
@@ -63,6 +66,11 @@ has-in f x y (num c) h = record { total = h .total; walk = replaced (λ x y w e.
 -- a walk of derivable edges is an open one
 pub has-open : (p : Plan) (x y : ℕ) (c : Cell) → Has (Derivable p) x y c → Has (Open p) x y c
 has-open p = has-in (λ x y w e. edges.ordinary e)
+
+-- a cell at most the total of every walk is at most a cell that has its walk
+pub under-walks : (E : ℕ → ℕ → ℤ → Type 0) (x y : ℕ) (c d : Cell) → Has E x y d → ((s : ℤ) → Walk E x y s → c ≤ᶜ num s) → c ≤ᶜ d
+under-walks E x y c mark h below = ≤ᶜ-mark c
+under-walks E x y c (num d) h below = ≤ᶜ-trans c (num (h .total)) (num d) (below (h .total) (h .walk)) (h .le)
 
 -- ---- tables
 
