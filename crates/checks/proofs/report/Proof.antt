@@ -9,11 +9,8 @@ use Rattle.checks.proofs.report.Tie as tie
 abbrev Inv-loop : tie.InvT-loop
 Inv-loop all at₀ at = at ≤ length all
 
-abbrev μ-loop : tie.MeasureT-loop
-μ-loop all at₀ at = length all - at
-
 pub report-spec : {M : Type 1} → statement M
 report-spec =
     tie.close
-    (tie.spec Inv-loop μ-loop
+    (tie.spec Inv-loop (λ all at₀ at. length all - at)
     (λ c. omega arith) (λ c κs. omega arith) (λ c. omega arith) (λ c. omega arith) (λ c. search needs))
