@@ -13,50 +13,14 @@ abbrev μ-loop : tie.MeasureT-loop
 
 returns : tie.Need-returns Inv-loop μ-loop
 returns c =
-    let s = c .before .before .before .before in
     let get = c .before .before .get in
-    let is-mark = c .before .is-mark in
-    let if1 = c .if1 in
-    let cell = mark-read (is-mark .ensures) (if1 .taken) in
-    sym
-    (row-at-mark adding (s .args .n) (s .args .y) (s .args .x) (s .args .t .now)
-    (sym (read-cell adding (s .args .n) (s .args .x) (s .args .y) (s .args .t .now) (get .result .v) (get .ensures)) ∙ cell))
-
-add-requires : tie.Need-add-requires Inv-loop μ-loop
-add-requires c κs =
-    let s = c .before .before .before .before .before .before .before .before .before in
-    let get = c .before .before .before .before .before .before .before .get in
-    let loop = c .before .before .before .before .loop in
-    let get2 = c .before .get2 in (
-      read-stored adding (s .args .n) (s .args .x) (s .args .y) (s .args .t .now) (get .result .v) (s .pre .3) (s .pre .0) (s .pre .1) (get .ensures),
-      read-stored adding (s .args .n) (s .args .y) (loop .z) (loop .t) (get2 .result .v) (loop .inv .lowered .sound) (s .pre .1) (omega arith) (get2 .ensures),
-    )
-
-loop-again : tie.Need-loop-again Inv-loop μ-loop
-loop-again c =
-    let s = c .before .before .before .before .before .before .before .before .before .before .before .before in
-    let get = c .before .before .before .before .before .before .before .before .before .before .get in
-    let loop = c .before .before .before .before .before .before .before .loop in
-    let get2 = c .before .before .before .before .get2 in
-    let add = c .before .before .add in
-    let lower-cell = c .before .lower-cell in
-    turns-more (cell-lowers adding adding-coherent (s .args .n) (s .args .y) (s .args .x) (cell64 (get .result .v)) (s .pre .0)) (loop .inv) (omega arith)
-    (join-cell-is adding (s .args .n) (s .args .y) (s .args .x) (loop .z) (cell64 (get .result .v)) (loop .t) (lower-cell .last .0)
-    (get2 .result .v) (add .result .v) (get2 .ensures) (add .ensures) (lower-cell .ensures))
-
-returns-2 : tie.Need-returns-2 Inv-loop μ-loop
-returns-2 c =
-    let s = c .before .before .before .before .before .before in
-    let get = c .before .before .before .before .get in
-    let loop = c .before .loop in
-    join-row-is adding (s .args .n) (s .args .y) (s .args .x) (s .args .t .now) (loop .t) (get .result .v) (get .ensures)
-    (turns-all (loop .inv) (omega arith))
+    sym (row-at-mark adding _ _ _ _ (sym (read-cell adding _ _ _ _ _ (get .ensures)) ∙ mark-read (c .before .is-mark .ensures) (c .if1 .taken)))
 
 pub join-row-spec : {M : Type 1} → statement M
 join-row-spec =
     tie.close
     (tie.spec Inv-loop μ-loop
-    (λ c κs. search needs) (λ c κs. search needs) (λ c. search needs) returns
-    (λ c. turns-none (c .before .before .before .before .pre .3))
-    (λ c κs. search needs) add-requires (λ c κs. search needs) (λ c. search needs) (λ c. search needs) loop-again
-    (λ c. search needs) returns-2)
+    (λ c κs. search needs) (λ c κs. search needs) (λ c. search needs) returns (λ c. search turns-none)
+    (λ c κs. search needs) (λ c κs. search (read-stored, arith)) (λ c κs. search needs) (λ c. search needs)
+    (λ c. search needs) (λ c. search (turns-more, cell-lowers, adding-coherent, join-cell-is, arith))
+    (λ c. search needs) (λ c. search (join-row-is, turns-all, arith)))

@@ -13,35 +13,18 @@ loop-holds : tie.Need-loop-holds Inv-loop μ-loop
 unfolding heights
 loop-holds c = (omega arith, refl)
 
-height-requires : tie.Need-height-requires Inv-loop μ-loop
-height-requires c κs =
-    let s = c .before .before .before in
-    let loop = c .before .before .loop in
-    let cell-at = c .cell-at in
-    held-read (s .pre .1) (loop .i) (omega arith) (cell-at .ensures)
-
 add-sum : tie.Need-add-sum Inv-loop μ-loop
 unfolding adding
 add-sum c =
     let s = c .before .before .before .before in
     let loop = c .before .before .before .loop in
-    let cell-at = c .before .cell-at in
-    let height = c .height in
-    omega (arith, heights-more adding (s .args .t .now) (loop .i) (cell-at .ensures) (height .ensures) (loop .inv .1), heights-most adding (s .args .count) (s .args .t .now) (s .pre .1) (loop .i + 1) (omega arith))
-
-loop-again : tie.Need-loop-again Inv-loop μ-loop
-loop-again c =
-    let s = c .before .before .before .before in
-    let loop = c .before .before .before .loop in
-    let cell-at = c .before .cell-at in
-    let height = c .height in
-    (omega arith, heights-more adding (s .args .t .now) (loop .i) (cell-at .ensures) (height .ensures) (loop .inv .1))
+    let most = heights-most adding (s .args .count) (s .args .t .now) (s .pre .1) (loop .i + 1) (omega arith) in
+    omega (arith, heights-more adding _ (loop .i) (c .before .cell-at .ensures) (c .height .ensures) (loop .inv .1))
 
 pub height-all-spec : {M : Type 1} → statement M
 height-all-spec =
     tie.close
     (tie.spec Inv-loop μ-loop
-    loop-holds
-    (λ c κs. omega (arith, c .before .before .pre .1 .room, c .loop-test .taken))
-    height-requires add-sum (λ c. search needs) (λ c. search needs) loop-again
+    loop-holds (λ c κs. search needs) (λ c κs. search (held-read, arith)) add-sum (λ c. search needs)
+    (λ c. search needs) (λ c. (omega arith, search heights-more))
     (λ c. c .before .loop .inv .1 ∙ ap (λ i. heights adding i (c .before .before .args .t .now)) (omega arith)))
