@@ -26,7 +26,8 @@ loop-again c =
     let loop = c .before .before .before .before .before .before .loop in
     let next = c .before .lower-open in
     opening-more (open-cell-lowers adding adding-coherent _ _ _ (s .pre .0)) (loop .inv) (omega arith) (next .kept .0) (next .ensures .0)
-    (open-cell-is adding (s .args .n) _ (s .args .x) (loop .y) _ _ (c .before .before .before .get .result .v) (search (part-read, arith)) (next .ensures .1))
+    (open-cell-is adding (s .args .n) _ (s .args .x) (loop .y) _ _ (c .before .before .before .get .result .v) (search (part-read, arith))
+    (next .ensures .1))
 
 pub open-row-spec : {M : Type 1} → statement M
 unfolding openRow

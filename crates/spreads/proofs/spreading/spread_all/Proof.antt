@@ -8,7 +8,8 @@ spread-rows-requires-2 : tie.Need-spread-rows-requires-2
 spread-rows-requires-2 c κs =
     let s = c .before .before .before .before .before .before .before in
     let lowers = spread-row-lowers version1 version1-coherent (s .args .n) (s .args .a) (s .args .b) (cell32 (s .args .w .v)) in
-    let sound = here-sound lowers (s .pre .1) (s .pre .3) (c .before .before .before .before .before .spread-rows .ensures) (c .before .before .spread-row .ensures) in
+    let rows = c .before .before .before .before .before .spread-rows in
+    let sound = here-sound lowers (s .pre .1) (s .pre .3) (rows .ensures) (c .before .before .spread-row .ensures) in
     search arith
 
 pub spread-all-spec : {M : Type 1} → statement M
