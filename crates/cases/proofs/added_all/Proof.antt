@@ -9,13 +9,10 @@ use Rattle.cases.proofs.added_all.Tie as tie
 abbrev Inv-loop : tie.InvT-loop
 Inv-loop file limits strict₀ open₀ at₀ strict «open» at = (at ≤ length limits) × (length strict ≡ length strict₀) × (length «open» ≡ length open₀)
 
-abbrev μ-loop : tie.MeasureT-loop
-μ-loop file limits strict₀ open₀ at₀ strict «open» at = length limits - at
-
 pub added-all-spec : {M : Type 1} → statement M
 added-all-spec =
     tie.close
-    (tie.spec Inv-loop μ-loop
+    (tie.spec Inv-loop (λ file limits strict₀ open₀ at₀ strict «open» at. length limits - at)
     (λ c. search needs) (λ c. search needs) (λ c κs. search needs) (λ c. search needs) (λ c κs. search needs)
     (λ c. search needs) (λ c κs. search needs) (λ c κs. search needs) (λ c. search needs) (λ c. search needs)
     (λ c. search needs) (λ c. search needs) (λ c. search needs) (λ c. search needs))

@@ -8,12 +8,9 @@ use Rattle.cases.proofs.print_row.Tie as tie
 abbrev Inv-loop : tie.InvT-loop
 Inv-loop cells i₀ i = i ≤ length cells
 
-abbrev μ-loop : tie.MeasureT-loop
-μ-loop cells i₀ i = length cells - i
-
 pub print-row-spec : {M : Type 1} → statement M
 print-row-spec =
     tie.close
-    (tie.spec Inv-loop μ-loop
+    (tie.spec Inv-loop (λ cells i₀ i. length cells - i)
     (λ c. search needs) (λ c. search needs) (λ c. search needs) (λ c κs. search needs) (λ c. search needs)
     (λ c. search needs) (λ c. search needs) (λ c. search needs))

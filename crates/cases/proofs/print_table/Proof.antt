@@ -7,13 +7,10 @@ use Rattle.cases.proofs.print_table.Tie as tie
 abbrev Inv-loop : tie.InvT-loop
 Inv-loop word strict «open» n which x₀ t7 t8 x = x ≤ n
 
-abbrev μ-loop : tie.MeasureT-loop
-μ-loop word strict «open» n which x₀ t7 t8 x = n - x
-
 pub print-table-spec : {M : Type 1} → statement M
 print-table-spec =
     tie.close
-    (tie.spec Inv-loop μ-loop
+    (tie.spec Inv-loop (λ word strict «open» n which x₀ t7 t8 x. n - x)
     (λ c κs. search needs) (λ c. search needs) (λ c κs. search needs) (λ c κs. search needs) (λ c. search needs)
     (λ c κs. search needs) (λ c. search needs) (λ c. search needs) (λ c. search needs) (λ c. search needs)
     (λ c κs. search needs) (λ c. search needs))

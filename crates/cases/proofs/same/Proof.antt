@@ -8,12 +8,9 @@ use Rattle.cases.proofs.same.Tie as tie
 abbrev Inv-loop : tie.InvT-loop
 Inv-loop cells v i₀ i = i ≤ length cells
 
-abbrev μ-loop : tie.MeasureT-loop
-μ-loop cells v i₀ i = length cells - i
-
 pub same-spec : {M : Type 1} → statement M
 same-spec =
     tie.close
-    (tie.spec Inv-loop μ-loop
+    (tie.spec Inv-loop (λ cells v i₀ i. length cells - i)
     (λ c. search needs) (λ c. search needs) (λ c. search needs) (λ c. search needs) (λ c. search needs)
     (λ c. search needs) (λ c. search needs) (λ c. search needs))

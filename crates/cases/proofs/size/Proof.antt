@@ -29,18 +29,6 @@ less c =
       more = omega (signed, kept h, abs v, parts v);
     }
 
-sub-result : tie.Need-sub-result
-sub-result c = let l = less c in rw (l .is) (fit w32 (pos (l .size)) (l .small))
-
-cast-result : tie.Need-cast-result
-cast-result c = let l = less c in rw (l .is, toZ-pos w32 (l .size) (l .small)) (search needs)
-
-add-result : tie.Need-add-result
-add-result c = let l = less c in rw (l .is, toZ-pos w32 (l .size) (l .small)) (search needs)
-
-returns : tie.Need-returns
-returns c = let l = less c in rw (l .is, toZ-pos w32 (l .size) (l .small)) (l .more)
-
 cast-result-2 : tie.Need-cast-result-2
 cast-result-2 c =
     let v = c .before .args .v in
@@ -48,4 +36,7 @@ cast-result-2 c =
     rw (back h) (by-nonNeg v (omega (signed, kept h)), omega (signed, kept h, abs v))
 
 pub size-spec : {M : Type 1} → statement M
-size-spec = tie.close (tie.spec sub-result cast-result add-result returns cast-result-2 (λ c. search needs))
+size-spec = tie.close (tie.spec (λ c. let l = less c in rw (l .is) (fit w32 (pos (l .size)) (l .small)))
+    (λ c. let l = less c in rw (l .is, toZ-pos w32 (l .size) (l .small)) (search needs))
+    (λ c. let l = less c in rw (l .is, toZ-pos w32 (l .size) (l .small)) (search needs))
+    (λ c. let l = less c in rw (l .is, toZ-pos w32 (l .size) (l .small)) (l .more)) cast-result-2 (λ c. search needs))

@@ -10,13 +10,10 @@ use Rattle.checks.proofs.take.Tie as tie
 abbrev Inv-loop : tie.InvT-loop
 Inv-loop all at count t₀ i₀ t i = (i ≤ count) × (length t ≡ length t₀)
 
-abbrev μ-loop : tie.MeasureT-loop
-μ-loop all at count t₀ i₀ t i = count - i
-
 pub take-spec : {M : Type 1} → statement M
 take-spec =
     tie.close
-    (tie.spec Inv-loop μ-loop
+    (tie.spec Inv-loop (λ all at count t₀ i₀ t i. count - i)
     (λ c. search needs) (λ c. search needs) (λ c. search needs) (λ c κs. search needs) (λ c. search needs)
     (λ c. search needs) (λ c. search needs) (λ c. search needs)
     (λ c. simp length-set (omega arith))

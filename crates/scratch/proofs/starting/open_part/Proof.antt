@@ -1,5 +1,5 @@
 -- `starting::open_part` meets its contract: the open table's part is lent. Assumes nothing.
-use Rattle.lowering.proofs.Common.{ap, _∙_, _*_, _-_, _≤_, arith, length, take-put, adding, firstOpen, needs}
+use Rattle.lowering.proofs.Common.{_∙_, _*_, _≤_, arith, length, take-put, needs}
 use Rattle.scratch.proofs.ScratchParts.{rest, rest-back}
 use Rattle.scratch.proofs.starting.open_part.Statement.{statement}
 use Rattle.scratch.proofs.starting.open_part.Tie as tie
@@ -7,13 +7,8 @@ use Rattle.scratch.proofs.starting.open_part.Tie as tie
 returns : tie.Need-returns
 returns c =
     let s = c .before .before .before in
-    let first-open = c .before .first-open in
-    let cells = s .args .n * s .args .n in
-    let half : cells ≤ length (s .args .t .now) = omega (arith, s .pre .1) in (
-      take-put cells (length (s .args .t .now) - cells) (s .args .t .now) (first-open .last .0) half,
-      rest-back cells (s .args .t .now) (first-open .last .0) half
-          ∙ (first-open .ensures ∙ ap (firstOpen adding (s .args .n)) (rest cells (s .args .t .now))),
-    )
+    let half : s .args .n * s .args .n ≤ length (s .args .t .now) = omega arith in
+    (search take-put, search rest-back ∙ rw rest at (c .before .first-open .ensures))
 
 pub open-part-spec : {M : Type 1} → statement M
 open-part-spec =

@@ -58,7 +58,8 @@ loop-again c =
     let height = c .before .before .before .before .before in
     let round = height .before .before .before in
     let turn = round .before .before .before .before .before .before in
-    (standing-on (call turn .pre .0) (turn .loop .inv .0) (round .strict-round .ensures) (c .before .open-round .ensures), height .strict-height2 .ensures)
+    let on = standing-on (call turn .pre .0) (turn .loop .inv .0) (round .strict-round .ensures) (c .before .open-round .ensures) in
+    (on, height .strict-height2 .ensures)
 
 pub settle-spec : {M : Type 1} → statement M
 settle-spec =
