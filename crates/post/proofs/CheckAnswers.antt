@@ -25,7 +25,7 @@ use Rattle.plan.proofs.TestsMade.{failed, passed}
 use Rattle.plan.proofs.SoundFile.{points-is}
 use Rattle.cell.specs.Steps.{Decides}
 use Rattle.lowering.specs.Table.{Ready}
-use Rattle.closed.proofs.ClosedWhole.{few}
+use Rattle.lowering.proofs.Laws.LinksAsRead.{few}
 
 -- the file's own answer: a refusal stands, and else it is Done
 module _ (s : List ℕ) (a : Answer) (e : a ≡ fileAnswer s) (b : Bool) (t : b ≡ eqb (codeOf a) 0) where
@@ -51,7 +51,7 @@ module _ (s : List ℕ) (d : fileAnswer s ≡ Done) (h : Header) (e : h ≡ head
 
   -- a table's size fits a number of the machine
   pub cells-small : h .points * h .points < 2 ^ 64
-  cells-small = omega (arith, square-le (few s (h .points) (h .limits) (h .links) ready))
+  cells-small = omega (arith, square-le (few ready))
 
   points : planOf s .points ≡ h .points
   points = points-is s ∙ ap (λ (x : Header). x .points) (sym e)

@@ -41,7 +41,8 @@ module _ {n : ℕ} {k : Link} (h : LinkInRange version1 n k) {v : ℤ} (e : v �
   pub minus-cell : {u : ℤ} → u ≡ negℤ v → cell32 u ≡ num (negℤ (pos (k .short)))
   minus-cell f =
       rw (f, e)
-      (in-range room32 {a = negℤ (pos (k .short))} (omega (ints, neg (pos (k .short)), room32 .weight, h .order, h .most)) (omega (ints, neg (pos (k .short)))) .is)
+      (in-range room32 {a = negℤ (pos (k .short))} (omega (ints, neg (pos (k .short)), room32 .weight, h .order, h .most))
+      (omega (ints, neg (pos (k .short)))) .is)
 
 -- a limit's weight, as it stands in a field
 pub weight-cell : {n : ℕ} {l : Limit} → LimitInRange version1 n l → cell32 (toZ w32 (ofZ w32 (l .weight))) ≡ num (l .weight)

@@ -5,11 +5,6 @@ use Rattle.scratch.proofs.ScratchParts.{half-room, front-length, rest}
 use Rattle.scratch.proofs.settling.both_heights.Statement.{statement}
 use Rattle.scratch.proofs.settling.both_heights.Tie as tie
 
-slice-aggregate-height-all : tie.Need-slice-aggregate-height-all
-slice-aggregate-height-all c =
-    let s = c .before in
-    front-length (s .args .n * s .args .n) (s .args .t .now) (half-room (s .pre .1))
-
 height-all-requires-2 : tie.Need-height-all-requires-2
 height-all-requires-2 c κs =
     let s = c .before .before .before in
@@ -31,17 +26,12 @@ add-result c =
       heights-most adding cells (openPart (s .args .n) (s .args .t .now)) (sound-held (s .pre .1 .weak)) cells (omega arith),
     )
 
-returns : tie.Need-returns
-returns c =
-    let s = c .before .before .before .before in
-    let height-all = c .before .before .height-all in
-    let height-all2 = c .height-all2 in
-    omega (arith, height-all .ensures, rw (rest (s .args .n * s .args .n) (s .args .t .now)) at (height-all2 .ensures))
-
 pub both-heights-spec : {M : Type 1} → statement M
 both-heights-spec =
     tie.close
-    (tie.spec (λ c. search needs) slice-aggregate-height-all
-    (λ c κs. (omega (arith, square-le (c .before .pre .0)), sound-held (c .before .pre .1 .strict)))
-    (λ c. search needs) (λ c. search needs) (λ c. search needs) (λ c. search needs) height-all-requires-2 add-result
-    returns)
+    (tie.spec (λ c. search needs) (λ c. search (front-length, half-room, needs))
+    (λ c κs. (omega (arith, square-le (c .before .pre .0)), sound-held (c .before .pre .1 .strict))) (λ c. search needs) (λ c. search needs)
+    (λ c. search needs) (λ c. search needs) height-all-requires-2 add-result
+    (λ c.
+    let s = c .before .before .before .before in
+    omega (arith, c .before .before .height-all .ensures, rw (rest (s .args .n * s .args .n) (s .args .t .now)) at (c .height-all2 .ensures))))
