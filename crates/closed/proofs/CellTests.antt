@@ -60,7 +60,4 @@ row-at-mark n y x t a ea e = decided-yes (λ z h. rw (sym (read-cell version1 n 
 pub decides-sum : (n y x z : ℕ) (t : List ℤ) (a c s : ℤ) {b : Bool} → a ≡ getD t (x * n + y) (pos zero) → c ≡ getD t (y * n + z) (pos zero)
     → cell32 s ≡ cell32 a +ᶜ cell32 c → Decides b (tableOf version1 n t x z ≤ᶜ cell32 s)
     → Decides b (tableOf version1 n t x z ≤ᶜ (tableOf version1 n t x y +ᶜ tableOf version1 n t y z))
-decides-sum n y x z t a c s ea ec es d =
-    let sum : cell32 s ≡ tableOf version1 n t x y +ᶜ tableOf version1 n t y z =
-    rw (← read-cell version1 n x y t a ea, ← read-cell version1 n y z t c ec) es in
-    decides-same (λ (e : Cell). tableOf version1 n t x z ≤ᶜ e) sum d
+decides-sum n y x z t a c s ea ec es d = rw (← read-cell version1 n x y t a ea, ← read-cell version1 n y z t c ec, ← es) d
