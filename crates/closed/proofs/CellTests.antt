@@ -5,13 +5,11 @@ use mathlib.Core.List.{List}
 use Prim.Native.Nat.{ℕ, zero, _+_, _*_}
 use lib.ListN.{getD}
 use lib.IntN.{ℤ, pos}
-use lib.Signed.{_≤ℤ_}
 use borrow.Author.Tests.{not-true, not-false}
-use Rattle.whole.proofs.Order.{ints}
 use Rattle.rules.specs.Plan.{version1}
 use Rattle.rules.specs.Cells.{Cell, mark, num, _+ᶜ_, _≤ᶜ_, tableOf}
 use Rattle.cell.specs.Steps.{cell32, belowᶜ, Decides}
-use Rattle.cell.proofs.CellMethods.{decided-yes, decided-no, number-is, room32}
+use Rattle.cell.proofs.CellMethods.{decided-yes, decided-no}
 use Rattle.cell.proofs.StoredCells.{≤ᶜ-refl, ≤ᶜ-antisym, ≤ᶜ-mark, not-below-le, le-not-below}
 use Rattle.lowering.proofs.Laws.LoopTurns.{read-cell}
 use Rattle.closed.specs.Parts.{RowJoined}
@@ -39,15 +37,6 @@ given-by {b} d e = d .holds (not-false b e)
 pub decides-all : {P R : Type 0} {b : Bool} → Decides b P → (P → R) → (R → P) → Decides b R
 decides-all d f g = record { holds = λ e. f (d .holds e); fails = λ e r. d .fails e (g r) }
 
--- what is decided of a number that was read is decided of the table's cell
-pub decides-cell : (P : Cell → Type 0) (n x y : ℕ) (t : List ℤ) (v : ℤ) {b : Bool} → v ≡ getD t (x * n + y) (pos zero)
-    → Decides b (P (cell32 v)) → Decides b (P (tableOf version1 n t x y))
-decides-cell P n x y t v e d = decides-same P (read-cell version1 n x y t v e) d
-
--- a number that is at most a weight is that number as a cell
-pub weight-cell : (a : ℤ) → a ≤ℤ pos (version1 .weight) → cell32 a ≡ num a
-weight-cell a h = number-is (version1 .mark) a (omega (ints, room32))
-
 -- a cell is a number where neither of it and the number exceeds the other
 module _ (a z : Cell) {v : ℤ} (f : z ≡ num v) {b : Bool} (d : Decides b (a ≤ᶜ z)) where
   pub not-same : not b ≡ true → Decides false (a ≡ num v)
@@ -62,15 +51,13 @@ module _ (a z : Cell) {v : ℤ} (f : z ≡ num v) {b : Bool} (d : Decides b (a �
 
 -- ---- Join
 
--- a row with no path to the middle is under every sum along it
-pub row-at-mark : (n y x : ℕ) (t : List ℤ) → tableOf version1 n t x y ≡ mark → RowJoined n (tableOf version1 n t) y x
-row-at-mark n y x t e z h = rw e (≤ᶜ-mark (tableOf version1 n t x z))
+-- a row whose cell to the middle was read as the mark is under every sum along it
+pub row-at-mark : (n y x : ℕ) (t : List ℤ) (a : ℤ) → a ≡ getD t (x * n + y) (pos zero) → cell32 a ≡ mark
+    → Decides true (RowJoined n (tableOf version1 n t) y x)
+row-at-mark n y x t a ea e = decided-yes (λ z h. rw (sym (read-cell version1 n x y t a ea) ∙ e) (≤ᶜ-mark (tableOf version1 n t x z)))
 
 -- what is decided of a sum of cells that were read is decided of the table's sum
 pub decides-sum : (n y x z : ℕ) (t : List ℤ) (a c s : ℤ) {b : Bool} → a ≡ getD t (x * n + y) (pos zero) → c ≡ getD t (y * n + z) (pos zero)
     → cell32 s ≡ cell32 a +ᶜ cell32 c → Decides b (tableOf version1 n t x z ≤ᶜ cell32 s)
     → Decides b (tableOf version1 n t x z ≤ᶜ (tableOf version1 n t x y +ᶜ tableOf version1 n t y z))
-decides-sum n y x z t a c s ea ec es d =
-    let sum : cell32 s ≡ tableOf version1 n t x y +ᶜ tableOf version1 n t y z =
-    rw (← read-cell version1 n x y t a ea, ← read-cell version1 n y z t c ec) es in
-    decides-same (λ (e : Cell). tableOf version1 n t x z ≤ᶜ e) sum d
+decides-sum n y x z t a c s ea ec es d = rw (← read-cell version1 n x y t a ea, ← read-cell version1 n y z t c ec, ← es) d

@@ -31,9 +31,11 @@ unfoldable pub use Rattle.lowering.specs.Sweep.{linkAll, lowerAll, lower
 pub use Rattle.lowering.proofs.Laws.CellsWritten.{Writing, all-marked, writing-all, writing-more, writing-none}
 pub use Rattle.lowering.proofs.Laws.FirstAsRead.{span-cell}
 pub use Rattle.lowering.proofs.Laws.LinksAsRead.{at-read, few, link-points, link-read, lowering-by}
-pub use Rattle.lowering.proofs.Laws.LooksAtCells.{CellWithin, NotNegative, Summing, heights-most, held-read, looked-also, looked-both, looked-failed, looked-no}
+pub use Rattle.lowering.proofs.Laws.LooksAtCells.{CellWithin, NotNegative, Summing, heights-most, held-read, looked-also, looked-both}
+pub use Rattle.lowering.proofs.Laws.LooksAtCells.{looked-failed, looked-no}
 pub use Rattle.lowering.proofs.Laws.LooksAtCells.{looked-yes, negative-failed, negative-more, sound-held}
-pub use Rattle.lowering.proofs.Laws.LooksAtCells.{summing-all, summing-more, summing-most, summing-none, within-all, within-failed, within-more}
+pub use Rattle.lowering.proofs.Laws.LooksAtCells.{summing-all, summing-more, summing-most, summing-none, within-all, within-failed}
+pub use Rattle.lowering.proofs.Laws.LooksAtCells.{within-more}
 pub use Rattle.lowering.proofs.Laws.LoopTurns.{Stretch, Turns, and-after, before-sound, here-sound, join-cell-is, join-row-is, lowering-is}
 pub use Rattle.lowering.proofs.Laws.LoopTurns.{read-cell, read-stored, row-at-mark, stretch-all, stretch-more, stretch-none, turns-all}
 pub use Rattle.lowering.proofs.Laws.LoopTurns.{turns-more, turns-none}

@@ -6,7 +6,7 @@ use native.Mathlib.Omega.{arith}
 use lib.ListN.{length, take, drop, getD, length-drop}
 use lib.Seq.{length-take-le, take-all, take-at, drop-at, drop-length, getD-take}
 use lib.IntN.{ℤ, pos}
-use borrow.Rule.Slice.PartMut.{putMid}
+use borrow.Rule.Slice.PartMut.{putMid, take-put}
 use Rattle.whole.proofs.Place.{inside}
 use Rattle.rules.specs.Plan.{Ranges}
 use Rattle.lowering.specs.Table.{Sound}
@@ -22,22 +22,25 @@ pub rest : (a : ℕ) (t : List ℤ) → take (length t - a) (drop a t) ≡ drop 
 rest a t = take-all (length t - a) (drop a t) (omega (arith, length-drop a t))
 
 -- a rest that is back stands after what was before it
-pub rest-back : (a : ℕ) (t v : List ℤ) → a ≤ length t → drop a (putMid a (length t - a) t v) ≡ v
-rest-back a t v h =
+pub rest-back : (a : ℕ) (t : List ℤ) {v w : List ℤ} → a ≤ length t → v ≡ w
+    → (take a (putMid a (length t - a) t v) ≡ take a t) × (drop a (putMid a (length t - a) t v) ≡ w)
+rest-back a t {v} h e =
     let none : drop (length t - a) (drop a t) ≡ [] =
-    subst (λ (k : ℕ). drop k (drop a t) ≡ []) (length-drop a t) (drop-length (drop a t)) in
-    drop-at (take a t) (v ++ drop (length t - a) (drop a t)) a (length-take-le a t h) ∙ (ap (λ (l : List ℤ). v ++ l) none ∙ append-nil v)
+    subst (λ (k : ℕ). drop k (drop a t) ≡ []) (length-drop a t) (drop-length (drop a t)) in (
+      take-put a (length t - a) t v h,
+      drop-at (take a t) (v ++ drop (length t - a) (drop a t)) a (length-take-le a t h) ∙ (ap (λ (l : List ℤ). v ++ l) none ∙ (append-nil v ∙ e)),
+    )
 
 -- a front that is lent has as many cells as were asked for
 pub front-length : (a : ℕ) (t : List ℤ) → a ≤ length t → a ≡ length (take a t)
 front-length a t h = sym (length-take-le a t h)
 
--- a front that is back, and what lies after it
-pub front-back : (a : ℕ) (t v : List ℤ) → a ≤ length t → length v ≡ length (take a t) → take a (v ++ drop a t) ≡ v
-front-back a t v h e = take-at v (drop a t) a (e ∙ length-take-le a t h)
-
-pub front-rest : (a : ℕ) (t v : List ℤ) → a ≤ length t → length v ≡ length (take a t) → drop a (v ++ drop a t) ≡ drop a t
-front-rest a t v h e = drop-at v (drop a t) a (e ∙ length-take-le a t h)
+-- a front that is back stands before what was after it
+pub front-back : (a : ℕ) (t : List ℤ) {v w : List ℤ} → a ≤ length t → length v ≡ length (take a t) → v ≡ w
+    → (take a (v ++ drop a t) ≡ w) × (drop a (v ++ drop a t) ≡ drop a t)
+front-back a t {v} h l e =
+    let same : length v ≡ a = l ∙ length-take-le a t h in
+    (take-at v (drop a t) a same ∙ e, drop-at v (drop a t) a same)
 
 -- ---- both tables
 

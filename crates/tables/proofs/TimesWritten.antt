@@ -58,7 +58,12 @@ module _ {n : ℕ} {strict : List ℤ} (s : Sound version1 n strict) (x : ℕ) (
   pub time-fits : SFits w32 (negℤ v)
   unfolding version1
   time-fits =
-      omega (signed, neg v, stored-most (version1 .mark) (version1 .reach) v (omega arith) stored, stored-least (version1 .mark) (version1 .reach) v stored)
+      omega (
+        signed,
+        neg v,
+        stored-most (version1 .mark) (version1 .reach) v (omega arith) stored,
+        stored-least (version1 .mark) (version1 .reach) v stored,
+      )
 
   pub time-is : {w : ℤ} → w ≡ negℤ v → TimeOf n strict x (toZ w32 (ofZ w32 w))
   time-is f c k = rw f (back time-fits ∙ ap negℤ (number-read version1 n x strict e k))

@@ -1,6 +1,6 @@
 -- Laws that the walks through the first tables and the open table cite: a table of marks, and the numbers of given edges as cells.
 -- At version 1's ranges, since they speak of what the code's 32-bit cells are. Assumes nothing.
-use mathlib.Core.Path.{_≡_, ap, _∙_}
+use mathlib.Core.Path.{_≡_}
 use mathlib.Core.List.{List}
 use Prim.Native.Nat.{ℕ, zero, _+_, _*_, _≤_, _<_}
 use native.Mathlib.Omega.{arith}
@@ -12,14 +12,12 @@ use mir.Val.{SFits, toZ, ofZ}
 use Rattle.whole.proofs.Order.{ints, neg}
 use Rattle.whole.proofs.Bits.{signed, back}
 use Rattle.rules.specs.Plan.{Limit, Link, Ranges, version1, LimitInRange, LinkInRange}
-use Rattle.rules.specs.Cells.{mark, num, cellOf}
+use Rattle.rules.specs.Cells.{mark, num, cellOf, tableOf}
 use Rattle.plan.specs.Layout.{limitAt}
 use Rattle.cell.specs.Steps.{cell32}
 use Rattle.cell.proofs.CellMethods.{room32, in-range, weight-number, negation-fits}
 use Rattle.lowering.specs.Table.{Sound, Ready}
 use Rattle.lowering.specs.Sweep.{lowerCell, markAll, openCell, linkEdges}
-use Rattle.lowering.proofs.Laws.LoopTurns.{read-cell}
-use Rattle.lowering.proofs.Laws.LinksAsRead.{lowering-by}
 use Rattle.lowering.proofs.Theory.FirstTables.{marks-walked}
 use Rattle.lowering.proofs.Laws.ReadyFile.{limit-range}
 
@@ -41,7 +39,8 @@ module _ {n : ℕ} {k : Link} (h : LinkInRange version1 n k) {v : ℤ} (e : v �
   pub minus-cell : {u : ℤ} → u ≡ negℤ v → cell32 u ≡ num (negℤ (pos (k .short)))
   minus-cell f =
       rw (f, e)
-      (in-range room32 {a = negℤ (pos (k .short))} (omega (ints, neg (pos (k .short)), room32 .weight, h .order, h .most)) (omega (ints, neg (pos (k .short)))) .is)
+      (in-range room32 {a = negℤ (pos (k .short))} (omega (ints, neg (pos (k .short)), room32 .weight, h .order, h .most))
+      (omega (ints, neg (pos (k .short)))) .is)
 
 -- a limit's weight, as it stands in a field
 pub weight-cell : {n : ℕ} {l : Limit} → LimitInRange version1 n l → cell32 (toZ w32 (ofZ w32 (l .weight))) ≡ num (l .weight)
@@ -57,8 +56,8 @@ weight-cell {n} {l} h =
 -- the open cell under the strict one that was read
 pub open-cell-is : (r : Ranges) (n : ℕ) (strict : List ℤ) (x y : ℕ) (t u : List ℤ) (c : ℤ) → c ≡ getD strict (x * n + y) (pos zero)
     → u ≡ lowerCell r n x y (cellOf (r .mark) c) t → u ≡ openCell r n strict x y t
-unfolding openCell
-open-cell-is r n strict x y t u c ec eu = lowering-by r n x y t u c (read-cell r n x y strict c ec) eu
+unfolding openCell tableOf
+open-cell-is r n strict x y t u c ec eu = rw (← ec) eu
 
 -- a limit that was read is in range
 pub limit-read : {s : List ℕ} {n m k : ℕ} → Ready s n m k → (i : ℕ) → i < m → {l : Limit} → l ≡ limitAt s i → LimitInRange version1 n l
@@ -69,6 +68,4 @@ pub edges-are : (r : Ranges) (n : ℕ) (a : Link) (t u v : List ℤ) (long short
     → cellOf (r .mark) short ≡ num (negℤ (pos (a .short))) → u ≡ lowerCell r n (a .act) (a .con) (cellOf (r .mark) long) t
     → v ≡ lowerCell r n (a .con) (a .act) (cellOf (r .mark) short) u → v ≡ linkEdges r n a t
 unfolding linkEdges
-edges-are r n a t u v long short el es eu ev =
-    let first : u ≡ lowerCell r n (a .act) (a .con) (num (pos (a .long))) t = lowering-by r n (a .act) (a .con) t u long el eu in
-    lowering-by r n (a .con) (a .act) u v short es ev ∙ ap (lowerCell r n (a .con) (a .act) (num (negℤ (pos (a .short))))) first
+edges-are r n a t u v long short el es eu ev = rw (← es, ← el, ← eu) ev

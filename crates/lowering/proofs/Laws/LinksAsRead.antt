@@ -7,14 +7,12 @@ use borrow.Author.Tests.{eq-eqb, ne-eqb}
 use lib.ListN.{getD}
 use lib.IntN.{ℤ, pos}
 use Rattle.rules.specs.Plan.{Link, Ranges, version1, LinkInRange}
-use Rattle.rules.specs.Cells.{Cell, lowered, uppered, cellOf}
+use Rattle.rules.specs.Cells.{Cell, lowered, uppered, cellOf, tableOf}
 use Rattle.plan.specs.Layout.{linkAt}
 use Rattle.lowering.specs.Table.{Ready}
 use Rattle.lowering.specs.Sweep.{lowerCell, lowerPair, upperCell}
 use Rattle.lowering.specs.Spread.{newEdge, lowerEdge, upperEdge, followLower, followLowers, followUpper, followUppers, followLink}
 use Rattle.lowering.proofs.Laws.ReadyFile.{link-range, ready-few}
-use Rattle.lowering.proofs.Laws.LoopTurns.{read-cell}
-use Rattle.lowering.proofs.Laws.SpreadAsRead.{edge-by}
 use Rattle.lowering.proofs.Theory.SweepSteps.{LinkPoints}
 
 -- a link that was read is in range
@@ -40,18 +38,15 @@ pair-own r n a b t e = rw (eq-eqb (b .con) (a .con) e)
 pub pair-is : (r : Ranges) (n : ℕ) (a b : Link) (t u : List ℤ) (c v : ℤ) → (b .con ≡ a .con → ⊥) → c ≡ getD t (a .con * n + b .con) (pos zero)
     → cellOf (r .mark) v ≡ lowered a b (cellOf (r .mark) c) → u ≡ lowerCell r n (a .act) (b .con) (cellOf (r .mark) v) t
     → u ≡ lowerPair r n a b t
-unfolding lowerPair
-pair-is r n a b t u c v ne ec ev eu =
-    rw (ne-eqb (b .con) (a .con) ne)
-    (lowering-by r n (a .act) (b .con) t u v (ev ∙ ap (lowered a b) (read-cell r n (a .con) (b .con) t c ec)) eu)
+unfolding lowerPair tableOf
+pair-is r n a b t u c v ne ec ev eu = rw (ne-eqb (b .con) (a .con) ne, ← ec, ← ev) eu
 
 -- Upper from a point: the cell read, and the one that Upper yields
 pub upper-cell-is : (r : Ranges) (n x : ℕ) (a : Link) (t u : List ℤ) (c v : ℤ) → c ≡ getD t (x * n + a .con) (pos zero)
     → cellOf (r .mark) v ≡ uppered a (cellOf (r .mark) c) → u ≡ lowerCell r n x (a .act) (cellOf (r .mark) v) t
     → u ≡ upperCell r n x a t
-unfolding upperCell
-upper-cell-is r n x a t u c v ec ev eu =
-    lowering-by r n x (a .act) t u v (ev ∙ ap (uppered a) (read-cell r n x (a .con) t c ec)) eu
+unfolding upperCell tableOf
+upper-cell-is r n x a t u c v ec ev eu = rw (← ec, ← ev) eu
 
 -- the same as an edge that is spread: nothing for a link's own contingent point
 pub lower-edge-own : (r : Ranges) (n : ℕ) (a b : Link) (t : List ℤ) → b .con ≡ a .con → t ≡ lowerEdge r n a b t
@@ -62,36 +57,32 @@ lower-edge-own r n a b t e = rw (eq-eqb (b .con) (a .con) e)
 pub lower-edge-is : (r : Ranges) (n : ℕ) (a b : Link) (t u : List ℤ) (c v : ℤ) → (b .con ≡ a .con → ⊥) → c ≡ getD t (a .con * n + b .con) (pos zero)
     → cellOf (r .mark) v ≡ lowered a b (cellOf (r .mark) c) → u ≡ newEdge r n (a .act) (b .con) (cellOf (r .mark) v) t
     → u ≡ lowerEdge r n a b t
-unfolding lowerEdge
-lower-edge-is r n a b t u c v ne ec ev eu =
-    rw (ne-eqb (b .con) (a .con) ne)
-    (edge-by r n (a .act) (b .con) t u v (ev ∙ ap (lowered a b) (read-cell r n (a .con) (b .con) t c ec)) eu)
+unfolding lowerEdge tableOf
+lower-edge-is r n a b t u c v ne ec ev eu = rw (ne-eqb (b .con) (a .con) ne, ← ec, ← ev) eu
 
 -- Upper from a point: the cell read, and the one that Upper yields
 pub upper-edge-is : (r : Ranges) (n x : ℕ) (a : Link) (t u : List ℤ) (c v : ℤ) → c ≡ getD t (x * n + a .con) (pos zero)
     → cellOf (r .mark) v ≡ uppered a (cellOf (r .mark) c) → u ≡ newEdge r n x (a .act) (cellOf (r .mark) v) t
     → u ≡ upperEdge r n a x t
-unfolding upperEdge
-upper-edge-is r n x a t u c v ec ev eu =
-    edge-by r n x (a .act) t u v (ev ∙ ap (uppered a) (read-cell r n x (a .con) t c ec)) eu
+unfolding upperEdge tableOf
+upper-edge-is r n x a t u c v ec ev eu = rw (← ec, ← ev) eu
 
 -- the strict cell to which Lower leads, and the one to which Upper leads, as they were read
 pub follow-lower-is : (r : Ranges) (n : ℕ) (strict : List ℤ) (a b : Link) (t u : List ℤ) (c : ℤ) → c ≡ getD strict (a .act * n + b .con) (pos zero)
     → u ≡ newEdge r n (a .act) (b .con) (cellOf (r .mark) c) t → u ≡ followLower r n strict a b t
-unfolding followLower
-follow-lower-is r n strict a b t u c ec eu = edge-by r n (a .act) (b .con) t u c (read-cell r n (a .act) (b .con) strict c ec) eu
+unfolding followLower tableOf
+follow-lower-is r n strict a b t u c ec eu = rw (← ec) eu
 
 pub follow-upper-is : (r : Ranges) (n : ℕ) (strict : List ℤ) (a : Link) (x : ℕ) (t u : List ℤ) (c : ℤ) → c ≡ getD strict (x * n + a .act) (pos zero)
     → u ≡ newEdge r n x (a .act) (cellOf (r .mark) c) t → u ≡ followUpper r n strict a x t
-unfolding followUpper
-follow-upper-is r n strict a x t u c ec eu = edge-by r n x (a .act) t u c (read-cell r n x (a .act) strict c ec) eu
+unfolding followUpper tableOf
+follow-upper-is r n strict a x t u c ec eu = rw (← ec) eu
 
 -- both, with the link as it was read between them
 pub follow-link-is : (r : Ranges) (n : ℕ) (strict : List ℤ) (link : ℕ → Link) (count : ℕ) (t : List ℤ) {a b : Link} {u v : List ℤ} → a ≡ b
     → u ≡ followLowers r n strict link count b t → v ≡ followUppers r n strict a u → v ≡ followLink r n strict link count b t
 unfolding followLink
-follow-link-is r n strict link count t {a} {b} {u} e eu ev =
-    ev ∙ (ap (λ (k : Link). followUppers r n strict k u) e ∙ ap (followUppers r n strict b) eu)
+follow-link-is r n strict link count t e eu ev = rw (← eu, ← e) ev
 
 -- the links of a table's plan name its points
 pub link-points : {s : List ℕ} {n m k : ℕ} → Ready s n m k → LinkPoints n (linkAt s m) k

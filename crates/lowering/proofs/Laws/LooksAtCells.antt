@@ -42,7 +42,8 @@ pub looked-both : {r : Ranges} {n : ℕ} {t : List ℤ} {b d : Bool} → Looked 
 looked-both {b = b} l e k = record { holds = λ f. record { within = l .holds (not-false b e); diagonal = k .holds f }; fails = k .fails }
 
 -- one table fair, and a look at another
-pub looked-also : {first second not-first not-second : Type 0} {b : Bool} → first → Looked b second not-second → Looked b (first × second) (not-first ⊎ not-second)
+pub looked-also : {first second not-first not-second : Type 0} {b : Bool} → first → Looked b second not-second
+    → Looked b (first × second) (not-first ⊎ not-second)
 looked-also f l = record { holds = λ e. (f, l .holds e); fails = λ e. inr (l .fails e) }
 
 -- ---- cells by their index

@@ -10,7 +10,7 @@ use lib.Seq.{set-getD}
 use lib.IntN.{ℤ, pos}
 use Rattle.rules.specs.Plan.{Ranges}
 use Rattle.rules.specs.Cells.{Cell, mark, _+ᶜ_, cellOf, tableOf}
-use Rattle.cell.specs.Steps.{smallerᶜ, Stored, clamped, numberOf}
+use Rattle.cell.specs.Steps.{smallerᶜ, Stored, clamped}
 use Rattle.lowering.specs.Table.{Sound}
 use Rattle.lowering.specs.Sweep.{iter, Between, lowerCell, joinCell, joinRow}
 use Rattle.cell.proofs.StoredCells.{number-back}
@@ -21,12 +21,7 @@ pub lowering-is : (r : Ranges) (n x y : ℕ) (c : Cell) (t u : List ℤ) (old ke
     → cellOf (r .mark) kept ≡ clamped (r .reach) c → cellOf (r .mark) new ≡ smallerᶜ (cellOf (r .mark) kept) (cellOf (r .mark) old)
     → u ≡ set t (x * n + y) new → u ≡ lowerCell r n x y c t
 unfolding lowerCell tableOf
-lowering-is r n x y c t u old kept new eo ek en eu =
-    let cell : cellOf (r .mark) new ≡ smallerᶜ (clamped (r .reach) c) (tableOf r n t x y) =
-    rw (en, ek, eo) in
-    let number : new ≡ numberOf (r .mark) (smallerᶜ (clamped (r .reach) c) (tableOf r n t x y)) =
-    sym (number-back (r .mark) new) ∙ ap (numberOf (r .mark)) cell in
-    eu ∙ ap (set t (x * n + y)) number
+lowering-is r n x y c t u old kept new eo ek en eu = rw (← eo, ← ek, ← en, number-back (r .mark) new) eu
 
 -- a number read out of a table is one that a sweep stores
 pub read-stored : (r : Ranges) (n x y : ℕ) (t : List ℤ) (v : ℤ) → Sound r n t → x < n → y < n → v ≡ getD t (x * n + y) (pos zero)
@@ -42,15 +37,14 @@ read-cell r n x y t v e = ap (cellOf (r .mark)) e
 -- a cell of the middle's row added and the row's cell lowered to the sum: one join
 pub join-cell-is : (r : Ranges) (n y x z : ℕ) (a : Cell) (t u : List ℤ) (c sum : ℤ) → c ≡ getD t (y * n + z) (pos zero)
     → cellOf (r .mark) sum ≡ a +ᶜ cellOf (r .mark) c → u ≡ lowerCell r n x z (cellOf (r .mark) sum) t → u ≡ joinCell r n y x a z t
-unfolding joinCell
-join-cell-is r n y x z a t u c sum ec es eu =
-    eu ∙ ap (λ (d : Cell). lowerCell r n x z d t) (es ∙ ap (λ (d : Cell). a +ᶜ d) (read-cell r n y z t c ec))
+unfolding joinCell tableOf
+join-cell-is r n y x z a t u c sum ec es eu = rw (← ec, ← es) eu
 
 -- the row's joins with the cell to the middle as it was read
 pub join-row-is : (r : Ranges) (n y x : ℕ) (t u : List ℤ) (a : ℤ) → a ≡ getD t (x * n + y) (pos zero)
     → u ≡ iter (joinCell r n y x (cellOf (r .mark) a)) n t → u ≡ joinRow r n y x t
-unfolding joinRow
-join-row-is r n y x t u a ea eu = eu ∙ ap (λ (d : Cell). iter (joinCell r n y x d) n t) (read-cell r n x y t a ea)
+unfolding joinRow tableOf
+join-row-is r n y x t u a ea eu = rw (← ea) eu
 
 -- lowering a cell to the mark changes nothing
 pub lowering-to-mark : (r : Ranges) (n x y : ℕ) (t : List ℤ) → lowerCell r n x y mark t ≡ t

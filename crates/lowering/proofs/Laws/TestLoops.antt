@@ -1,5 +1,5 @@
--- Tests over every number below a count: the turns of a loop that stops at the first number for which its test fails, and of one that goes on to the end. Assumes
--- nothing.
+-- Tests over every number below a count: the turns of a loop that stops at the first number for which its test fails, and of one that goes on to the
+-- end. Assumes nothing.
 use mathlib.Core.Path.{_≡_}
 use mathlib.Core.Bool.{Bool, true, false, not}
 use Prim.Native.Nat.{ℕ, _+_, _≤_, _<_}

@@ -1,6 +1,7 @@
 -- `lower::all_lowered` meets its contract: a turn for each link. Assumes nothing.
-use Rattle.closed.proofs.Common.{needs, _-_, arith, version1, tableOf, linkAt, decides-same, Passed, none-yet, one-more}
+use Rattle.closed.proofs.Common.{needs, _-_, arith, version1, tableOf, linkAt, Passed, none-yet, one-more}
 use Rattle.closed.proofs.Common.{one-failed, all-passed}
+use Rattle.closed.proofs.CellTests.{decides-same}
 use Rattle.closed.specs.Parts.{LinkLowered}
 use Rattle.closed.proofs.lower.all_lowered.Statement.{statement}
 use Rattle.closed.proofs.lower.all_lowered.Tie as tie
@@ -8,13 +9,13 @@ use Rattle.closed.proofs.lower.all_lowered.Tie as tie
 pub all-lowered-spec : {M : Type 1} → statement M
 all-lowered-spec =
     tie.close
-    (tie.spec (λ file n m k t i₀ i. Passed k (λ i. LinkLowered (linkAt file m) k (tableOf version1 n t) (linkAt file m i)) i) (λ file n m k t i₀ i. k - i)
+    (tie.spec (λ file n m k t i₀ i. Passed k (λ i. LinkLowered (linkAt file m) k (tableOf version1 n t) (linkAt file m i)) i)
+    (λ file n m k t i₀ i. k - i)
     (λ c. none-yet) (λ c κs. search needs) (λ c κs. search (c .link-of .ensures, c .before .before .before .before .pre .0, needs))
     (λ c.
     let a = c .before .before .before .before .before .before .args in
-    one-failed (c .before .before .before .before .loop .inv) (omega arith)
-    (decides-same (LinkLowered (linkAt (a .file .now) (a .m)) (a .k) (tableOf version1 (a .n) (a .t .now))) (c .before .before .link-of .ensures) (c .before .link-lowered .ensures))
-    (c .if1 .taken))
-    (λ c. search needs)
-    (λ c. search needs) (λ c. search (one-more, ← c .before .before .link-of .ensures, needs))
+    let lowered = LinkLowered (linkAt (a .file .now) (a .m)) (a .k) (tableOf version1 (a .n) (a .t .now)) in
+    let test = decides-same lowered (c .before .before .link-of .ensures) (c .before .link-lowered .ensures) in
+    one-failed (c .before .before .before .before .loop .inv) (omega arith) test (c .if1 .taken))
+    (λ c. search needs) (λ c. search needs) (λ c. search (one-more, ← c .before .before .link-of .ensures, needs))
     (λ c. all-passed (c .before .loop .inv) (omega arith)))

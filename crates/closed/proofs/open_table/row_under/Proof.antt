@@ -6,6 +6,7 @@ use Rattle.closed.proofs.open_table.row_under.Tie as tie
 pub row-under-spec : {M : Type 1} → statement M
 row-under-spec =
     tie.close
-    (tie.spec (λ strict weak n x y₀ y. Passed n (λ y. tableOf version1 n weak x y ≤ᶜ tableOf version1 n strict x y) y) (λ strict weak n x y₀ y. n - y)
+    (tie.spec (λ strict weak n x y₀ y. Passed n (λ y. tableOf version1 n weak x y ≤ᶜ tableOf version1 n strict x y) y)
+    (λ strict weak n x y₀ y. n - y)
     (λ c. none-yet) (λ c κs. search needs) (λ c. search (one-failed (c .before .before .before .loop .inv), needs)) (λ c. search needs)
     (λ c. search needs) (λ c. search (one-more, needs)) (λ c. all-passed (c .before .loop .inv) (omega arith)))

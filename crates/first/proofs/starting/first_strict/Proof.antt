@@ -23,12 +23,13 @@ link-all-requires c κs =
     let s = c .before .before .before .before .before .before .before .before .before .before .before .before .before .before in
     let first = c .before .before .before .before .before .before .before .before in
     let marks = sound-marks (s .args .t .now) (s .pre .1) (first .before .before .before .mark-all .ensures) in
-    let limits = sound-limits (s .pre .0) (sound-diagonal marks (first .diagonal-all .ensures)) (c .before .before .before .before .before .limit-all .ensures) in
+    let diagonal = sound-diagonal marks (first .diagonal-all .ensures) in
+    let limits = sound-limits (s .pre .0) diagonal (c .before .before .before .before .before .limit-all .ensures) in
     (s .pre .0, sound-starts limits (c .before .before .start-all .ensures))
 
 pub first-strict-spec : {M : Type 1} → statement M
 unfolding firstStrict
 first-strict-spec =
     tie.close
-    (tie.spec (λ c. omega (arith, square-le (few (c .before .before .pre .0)))) (λ c κs. search needs)
-    (λ c κs. search (few, sound-marks, needs)) limit-all-requires start-all-requires link-all-requires (λ c. search needs) (λ c. cc))
+    (tie.spec (λ c. omega (arith, square-le (few (c .before .before .pre .0)))) (λ c κs. search needs) (λ c κs. search (few, sound-marks, needs))
+    limit-all-requires start-all-requires link-all-requires (λ c. search needs) (λ c. cc))

@@ -1,5 +1,6 @@
 -- `joins::join_all` meets its contract: a turn for each middle. Assumes nothing.
-use Rattle.lowering.proofs.Common.{_-_, version1, version1-coherent, joinMiddle, joinAll, Turns, turns-none, turns-more, turns-all, middle-lowers, needs}
+use Rattle.lowering.proofs.Common.{_-_, version1, version1-coherent, joinMiddle, joinAll, Turns, turns-none, turns-more, turns-all, middle-lowers}
+use Rattle.lowering.proofs.Common.{needs}
 use Rattle.joining.proofs.joins.join_all.Statement.{statement}
 use Rattle.joining.proofs.joins.join_all.Tie as tie
 

@@ -11,6 +11,6 @@ join-middle-spec =
     (λ c κs.
     let s = c .before .before .before .before .before .before .before in
     let rows = c .before .before .before .before .before .join-rows in
-    search (here-sound (row-lowers version1 version1-coherent _ _) (s .pre .0) (s .pre .2) (rows .ensures) (c .before .before .join-row .ensures), needs))
-    (λ c. search needs)
-    (λ c. search (and-after, row-lowers version1 version1-coherent, needs)))
+    let row = c .before .before .join-row in
+    search (here-sound (row-lowers version1 version1-coherent _ _) (s .pre .0) (s .pre .2) (rows .ensures) (row .ensures), needs))
+    (λ c. search needs) (λ c. search (and-after, row-lowers version1 version1-coherent, needs)))

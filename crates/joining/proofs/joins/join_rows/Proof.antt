@@ -7,7 +7,5 @@ pub join-rows-spec : {M : Type 1} → statement M
 join-rows-spec =
     tie.close
     (tie.spec (λ t₀ n y first last x₀ t x. Stretch version1 n (joinRow version1 n y) first last x t₀ t) (λ t₀ n y first last x₀ t x. last - x)
-    (λ c. stretch-none (c .pre .2) (c .pre .4))
-    (λ c κs. search needs) (λ c. search needs) (λ c. search needs)
-    (λ c. search (stretch-more, row-lowers version1 version1-coherent, needs)) (λ c. search needs)
-    (λ c. search (stretch-all, needs)))
+    (λ c. stretch-none (c .pre .2) (c .pre .4)) (λ c κs. search needs) (λ c. search needs) (λ c. search needs)
+    (λ c. search (stretch-more, row-lowers version1 version1-coherent, needs)) (λ c. search needs) (λ c. search (stretch-all, needs)))

@@ -1,5 +1,6 @@
 -- `copies::all_in_reach` meets its contract: every cell passed is in reach, and one that is not is shown. Assumes nothing.
-use Rattle.lowering.proofs.Common.{needs, _-_, arith, not-true, version1, adding, CellWithin, Passed, none-yet, passed-all, within-more, looked-yes, looked-no}
+use Rattle.lowering.proofs.Common.{needs, _-_, arith, not-true, version1, adding, CellWithin, Passed, none-yet, passed-all, within-more}
+use Rattle.lowering.proofs.Common.{looked-yes, looked-no}
 use Rattle.scratch.proofs.copies.all_in_reach.Statement.{statement}
 use Rattle.scratch.proofs.copies.all_in_reach.Tie as tie
 
@@ -11,5 +12,6 @@ all-in-reach-spec =
     (λ c.
     let in-reach = c .before .in-reach in
     let out = in-reach .ensures .fails (not-true (in-reach .result) (c .if1 .taken)) in
-    looked-no (record { index = c .before .before .before .before .loop .i; below = omega arith; out = rw (← c .before .before .cell-at .ensures) out }))
+    let loop = c .before .before .before .before .loop in
+    looked-no (record { index = loop .i; below = omega arith; out = rw (← c .before .before .cell-at .ensures) out }))
     (λ c. search needs) (λ c. search needs) (λ c. search (within-more, needs)) (λ c. looked-yes (passed-all (c .before .loop .inv) (omega arith))))

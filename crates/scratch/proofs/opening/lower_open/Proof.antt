@@ -1,17 +1,15 @@
 -- `opening::lower_open` meets its contract: the open table's part is lent. Assumes nothing.
-use Rattle.lowering.proofs.Common.{_∙_, _*_, _≤_, arith, length, take-put, needs}
+use Rattle.lowering.proofs.Common.{_*_, arith, needs}
 use Rattle.scratch.proofs.ScratchParts.{rest, rest-back}
 use Rattle.scratch.proofs.opening.lower_open.Statement.{statement}
 use Rattle.scratch.proofs.opening.lower_open.Tie as tie
 
-returns : tie.Need-returns
-returns c =
-    let s = c .before .before .before in
-    let half : s .args .n * s .args .n ≤ length (s .args .t .now) = omega arith in
-    (search take-put, search rest-back ∙ rw rest at (c .before .lower-cell .ensures))
-
 pub lower-open-spec : {M : Type 1} → statement M
 lower-open-spec =
     tie.close
-    (tie.spec (λ c. search needs) (λ c. search needs) (λ c. search needs) (λ c. search needs) (λ c. search needs)
-    (λ c κs. search needs) (λ c. search needs) returns)
+    (tie.spec (λ c. search needs) (λ c. search needs) (λ c. search needs) (λ c. search needs) (λ c. search needs) (λ c κs. search needs)
+    (λ c. search needs)
+    (λ c.
+    let s = c .before .before .before in
+    let cells = s .args .n * s .args .n in
+    rest-back cells (s .args .t .now) (omega (arith, s .pre .3)) (rw (rest cells (s .args .t .now)) at (c .before .lower-cell .ensures))))

@@ -1,5 +1,5 @@
 -- `opening::open_under` meets its contract: a turn for each row. Assumes nothing.
-use Rattle.lowering.proofs.Common.{needs, _-_, arith, adding, openRow}
+use Rattle.lowering.proofs.Common.{needs, _-_, adding, openRow}
 use Rattle.lowering.specs.Sweep.{openAll}
 use Rattle.lowering.proofs.Theory.SweepSteps.{open-row-lowers}
 use Rattle.wide.proofs.AddStart.{adding-coherent}
@@ -8,22 +8,11 @@ use Rattle.scratch.proofs.ScratchParts.{Opening, opening-none, opening-
 use Rattle.scratch.proofs.opening.open_under.Statement.{statement}
 use Rattle.scratch.proofs.opening.open_under.Tie as tie
 
-abbrev Inv-loop : tie.InvT-loop
-Inv-loop t₀ n x₀ t x = Opening adding n n (openRow adding n (strictPart n t₀)) x t₀ t
-
-abbrev μ-loop : tie.MeasureT-loop
-μ-loop t₀ n x₀ t x = n - x
-
-loop-again : tie.Need-loop-again Inv-loop μ-loop
-loop-again c =
-    let loop = c .before .before .before .before .loop in
-    let next = c .before .open-row in
-    opening-more (open-row-lowers adding adding-coherent _ _) (loop .inv) (omega arith) (next .kept .0) (next .ensures .0) (cc)
-
 pub open-under-spec : {M : Type 1} → statement M
 unfolding openAll
 open-under-spec =
     tie.close
-    (tie.spec Inv-loop μ-loop
-    (λ c. search opening-none) (λ c κs. search (opening-both, arith)) (λ c. search needs) (λ c. search needs)
-    loop-again (λ c. search) (λ c. (search, search (opening-all, arith))))
+    (tie.spec (λ t₀ n x₀ t x. Opening adding n n (openRow adding n (strictPart n t₀)) x t₀ t) (λ t₀ n x₀ t x. n - x)
+    (λ c. opening-none (c .pre .1)) (λ c κs. search (opening-both, needs)) (λ c. search needs) (λ c. search needs)
+    (λ c. search (opening-more, open-row-lowers adding adding-coherent, ← c .before .before .before .before .loop .inv .strict-same, needs))
+    (λ c. search needs) (λ c. search (opening-all, needs)))

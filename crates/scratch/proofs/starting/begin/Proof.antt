@@ -1,5 +1,5 @@
 -- `starting::begin` meets its contract: the cells, then the limit, then the first open table. Assumes nothing.
-use Rattle.lowering.proofs.Common.{arith, needs}
+use Rattle.lowering.proofs.Common.{needs}
 use Rattle.scratch.proofs.AddBegins.{widened-sound, begun-of}
 use Rattle.scratch.proofs.starting.begin.Statement.{statement}
 use Rattle.scratch.proofs.starting.begin.Tie as tie
@@ -7,5 +7,5 @@ use Rattle.scratch.proofs.starting.begin.Tie as tie
 pub begin-spec : {M : Type 1} → statement M
 begin-spec =
     tie.close
-    (tie.spec (λ c. search needs) (λ c κs. search needs) (λ c κs. search (widened-sound, arith))
-    (λ c κs. search needs) (λ c. search needs) (λ c. search begun-of))
+    (tie.spec (λ c. search needs) (λ c κs. search needs) (λ c κs. search (widened-sound, needs)) (λ c κs. search needs) (λ c. search needs)
+    (λ c. search (begun-of, needs)))

@@ -12,5 +12,6 @@ spread-all-spec =
     (λ c κs.
     let s = c .before .before .before .before .before .before .before in
     let rows = c .before .before .before .before .before .spread-rows in
-    search (here-sound (spread-row-lowers version1 version1-coherent _ _ _ _) (s .pre .1) (s .pre .3) (rows .ensures) (c .before .before .spread-row .ensures), needs))
+    let row = c .before .before .spread-row in
+    search (here-sound (spread-row-lowers version1 version1-coherent _ _ _ _) (s .pre .1) (s .pre .3) (rows .ensures) (row .ensures), needs))
     (λ c. search needs) (λ c. search (and-after, spread-row-lowers version1 version1-coherent, needs)))

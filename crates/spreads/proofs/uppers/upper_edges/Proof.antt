@@ -10,5 +10,5 @@ unfolding upperEdges
 upper-edges-spec =
     tie.close
     (tie.spec (λ t₀ n a x₀ t x. Turns version1 n n (upperEdge version1 n (linkOf a)) x t₀ t) (λ t₀ n a x₀ t x. n - x)
-    (λ c. turns-none (c .pre .2)) (λ c κs. search needs) (λ c. search needs) (λ c. search needs) (λ c. search (turns-more, upper-edge-lowers version1 version1-coherent, needs)) (λ c. search needs)
-    (λ c. search (turns-all, needs)))
+    (λ c. turns-none (c .pre .2)) (λ c κs. search needs) (λ c. search needs) (λ c. search needs)
+    (λ c. search (turns-more, upper-edge-lowers version1 version1-coherent, needs)) (λ c. search needs) (λ c. search (turns-all, needs)))

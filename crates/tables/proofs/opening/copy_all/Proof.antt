@@ -9,5 +9,4 @@ copy-all-spec =
     tie.close
     (tie.spec (λ strict t₀ count i₀ t i. Writing count (λ j v. v ≡ getD strict j (pos 0)) i t₀ t) (λ strict t₀ count i₀ t i. count - i)
     (λ c. writing-none) (λ c. search needs) (λ c. search needs) (λ c. search needs) (λ c. search needs) (λ c. search needs) (λ c. search needs)
-    (λ c. search (writing-more, back, sfits-of, needs)) (λ c. search needs)
-    (λ c. search (writing-all (c .before .loop .inv) (omega arith))))
+    (λ c. search (writing-more, back, sfits-of, needs)) (λ c. search needs) (λ c. search (writing-all (c .before .loop .inv) (omega arith))))

@@ -7,4 +7,5 @@ use Rattle.tables.proofs.opening.follow_lower.Tie as tie
 pub follow-lower-spec : {M : Type 1} → statement M
 follow-lower-spec =
     tie.close
-    (tie.spec (λ c. search needs) (λ c. search needs) (λ c κs. search needs) (λ c κs. search needs) (λ c. search needs) (λ c. search (follow-lower-is, needs)))
+    (tie.spec (λ c. search needs) (λ c. search needs) (λ c κs. search needs) (λ c κs. search needs) (λ c. search needs)
+    (λ c. search (follow-lower-is, needs)))

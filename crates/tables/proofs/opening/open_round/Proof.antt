@@ -9,7 +9,8 @@ pub open-round-spec : {M : Type 1} → statement M
 unfolding openRound
 open-round-spec =
     tie.close
-    (tie.spec (λ file n m k strict t₀ i₀ t i. Turns version1 n k (λ i. followLink version1 n strict (linkAt file m) k (linkAt file m i)) i t₀ t) (λ file n m k strict t₀ i₀ t i. k - i)
+    (tie.spec (λ file n m k strict t₀ i₀ t i. Turns version1 n k (λ i. followLink version1 n strict (linkAt file m) k (linkAt file m i)) i t₀ t)
+    (λ file n m k strict t₀ i₀ t i. k - i)
     (λ c. turns-none (c .before .pre .2)) (λ c κs. search needs) (λ c. search needs) (λ c. search needs)
     (λ c.
     let s = c .before .before .before .before .before .before in

@@ -9,8 +9,8 @@ times-all-spec =
     tie.close
     (tie.spec (λ strict n times₀ x₀ times x. Writing n (TimeOf n strict) x times₀ times) (λ strict n times₀ x₀ times x. n - x)
     (λ c. writing-none) (λ c κs. search needs)
-    (λ c κs. time-fits (c .before .before .before .pre .1) (c .before .before .loop .x) (omega arith) (c .get .ensures))
-    (λ c. search needs) (λ c. search needs) (λ c. search needs) (λ c. search needs)
+    (λ c κs. time-fits (c .before .before .before .pre .1) (c .before .before .loop .x) (omega arith) (c .get .ensures)) (λ c. search needs)
+    (λ c. search needs) (λ c. search needs) (λ c. search needs)
     (λ c.
     let s = c .before .before .before .before .before in
     let loop = c .before .before .before .before .loop in

@@ -9,5 +9,5 @@ unfolding joinAll
 join-all-spec =
     tie.close
     (tie.spec (λ t₀ n y₀ t y. Turns adding n n (joinMiddle adding n) y t₀ t) (λ t₀ n y₀ t y. n - y)
-    (λ c. turns-none (c .pre .1)) (λ c κs. search needs) (λ c. search needs) (λ c. search needs) (λ c. search (turns-more, middle-lowers adding adding-coherent, needs)) (λ c. search needs)
-    (λ c. search (turns-all, needs)))
+    (λ c. turns-none (c .pre .1)) (λ c κs. search needs) (λ c. search needs) (λ c. search needs)
+    (λ c. search (turns-more, middle-lowers adding adding-coherent, needs)) (λ c. search needs) (λ c. search (turns-all, needs)))

@@ -9,5 +9,5 @@ unfolding joinMiddle
 join-middle-spec =
     tie.close
     (tie.spec (λ t₀ n y x₀ t x. Turns adding n n (joinRow adding n y) x t₀ t) (λ t₀ n y x₀ t x. n - x)
-    (λ c. turns-none (c .pre .2)) (λ c κs. search needs) (λ c. search needs) (λ c. search needs) (λ c. search (turns-more, row-lowers adding adding-coherent, needs)) (λ c. search needs)
-    (λ c. search (turns-all, needs)))
+    (λ c. turns-none (c .pre .2)) (λ c κs. search needs) (λ c. search needs) (λ c. search needs)
+    (λ c. search (turns-more, row-lowers adding adding-coherent, needs)) (λ c. search needs) (λ c. search (turns-all, needs)))

@@ -7,7 +7,6 @@ pub all-within-spec : {M : Type 1} → statement M
 all-within-spec =
     tie.close
     (tie.spec (λ t n count i₀ i. Passed count (CellWithin (adding .reach) (adding .mark) t) i) (λ t n count i₀ i. count - i)
-    (λ c. omega (arith, square-le (c .pre .0))) (λ c. none-yet)
-    (λ c κs. omega (arith, c .before .before .pre .1 .room, c .loop-test .taken))
-    (λ c κs. search needs) (λ c. search (within-failed, needs)) (λ c. search needs) (λ c. search needs)
-    (λ c. search (within-more, needs)) (λ c. within-all (c .before .loop .inv) (omega arith)))
+    (λ c. omega (arith, square-le (c .pre .0))) (λ c. none-yet) (λ c κs. omega (arith, c .before .before .pre .1 .room, c .loop-test .taken))
+    (λ c κs. search needs) (λ c. search (within-failed, needs)) (λ c. search needs) (λ c. search needs) (λ c. search (within-more, needs))
+    (λ c. within-all (c .before .loop .inv) (omega arith)))

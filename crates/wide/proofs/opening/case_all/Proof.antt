@@ -1,5 +1,6 @@
 -- `opening::case_all` meets its contract: a turn for each link. Assumes nothing.
-use Rattle.lowering.proofs.Common.{needs, _-_, adding, linkAt, caseLink, caseAll, few, link-read, link-points, Turns, turns-none, turns-more, turns-all}
+use Rattle.lowering.proofs.Common.{needs, _-_, adding, linkAt, caseLink, caseAll, few, link-read, link-points, Turns, turns-none, turns-more}
+use Rattle.lowering.proofs.Common.{turns-all}
 use Rattle.wide.proofs.AddStart.{adding-coherent}
 use Rattle.lowering.proofs.Theory.SweepSteps.{case-link-lowers}
 use Rattle.wide.proofs.opening.case_all.Statement.{statement}
