@@ -10,17 +10,17 @@ narrow-requires : tie.Need-narrow-requires
 narrow-requires c κs =
     let s = c .before .before in
     let cells = s .args .n * s .args .n in
-    rw (rest cells (s .args .t .now))
-    (omega (arith, s .pre .1, length-drop cells (s .args .t .now)), omega (arith, s .pre .2), λ i h. part-reach cells (s .args .t .now) (s .pre .3) i (omega arith))
-
-returns : tie.Need-returns
-returns c =
-    let s = c .before .before .before .before in
-    let narrow = c .before .narrow in
-    rw (rest (s .args .n * s .args .n) (s .args .t .now)) at (narrow .ensures)
+    rw (rest cells (s .args .t .now)) (
+      omega (arith, s .pre .1, length-drop cells (s .args .t .now)),
+      omega (arith, s .pre .2),
+      λ i h. part-reach cells (s .args .t .now) (s .pre .3) i (omega arith),
+    )
 
 pub narrow-open-spec : {M : Type 1} → statement M
 narrow-open-spec =
     tie.close
     (tie.spec (λ c. search needs) (λ c. search needs) (λ c. search needs) (λ c. search needs) (λ c. search needs)
-    narrow-requires (λ c. search needs) returns)
+    narrow-requires (λ c. search needs)
+    (λ c.
+    let s = c .before .before .before .before in
+    rw (rest (s .args .n * s .args .n) (s .args .t .now)) at (c .before .narrow .ensures)))
