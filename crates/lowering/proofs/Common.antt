@@ -8,18 +8,17 @@ pub use lib.IntN.{pos}
 pub use lib.ListN.{getD, length}
 pub use borrow.Author.Needs.{needs}
 pub use borrow.Author.Tests.{not-false, not-true}
-pub use borrow.Rule.Slice.PartMut.{take-put}
 pub use mir.Syntax.{w32}
 pub use mir.Val.{ofZ, toZ}
 pub use Rattle.whole.proofs.Bits.{back}
 pub use Rattle.whole.proofs.Place.{inside, square-le, within}
-pub use Rattle.rules.specs.Cells.{Cell, Within, _≤ᶜ_, num, tableOf}
+pub use Rattle.rules.specs.Cells.{Within, _≤ᶜ_, num, tableOf}
 unfoldable pub use Rattle.rules.specs.Plan.{version1}
 pub use Rattle.rules.specs.declared.Answer.the-variants.{Done}
 pub use Rattle.rules.proofs.Demands.{version1-coherent}
 pub use Rattle.plan.specs.File.{fileAnswer}
 pub use Rattle.plan.specs.Layout.{limitAt, linkAt}
-pub use Rattle.plan.specs.Values.{limitOf, linkOf}
+pub use Rattle.plan.specs.Values.{linkOf}
 pub use Rattle.cell.specs.Steps.{cell32, cell64}
 unfoldable pub use Rattle.cell.specs.Steps.{adding}
 pub use Rattle.cell.proofs.CellMethods.{is-mark as mark-read}

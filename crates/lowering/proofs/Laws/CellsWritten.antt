@@ -48,15 +48,11 @@ module _ {m : ℕ} {P : ℕ → ℤ → Type 0} where
         let e : i ≡ m = omega (arith, c .bound) in
         subst (λ (k : ℕ). Writing m P k start now) e c
 
-module _ {m i : ℕ} {start now : List ℤ} where
-  -- one number
-  pub all-filled : {a : ℤ} → Writing m (λ j v. v ≡ a) i start now → m ≤ i → Filled m a start now
-  all-filled c h =
-      let w = writing-all c h in
-      record { kept = w .kept; all-same = w .written }
-
-  -- the mark
-  pub all-marked : (r : Ranges) → Writing m (λ j v. v ≡ pos (r .mark)) i start now → m ≤ i → m ≤ length start → now ≡ markAll r m start
-  all-marked r c h room =
-      let a = marks r m start room in
-      filled-once (all-filled c h) (record { kept = record { length-same = a .same-length; beyond-same = a .beyond }; all-same = a .all })
+-- all of them the mark
+pub all-marked : (r : Ranges) {m i : ℕ} {start now : List ℤ} → Writing m (λ j v. v ≡ pos (r .mark)) i start now → m ≤ i → m ≤ length start
+    → now ≡ markAll r m start
+all-marked r {m} {start = start} {now} c h room =
+    let w = writing-all c h in
+    let a = marks r m start room in
+    let here : Filled m (pos (r .mark)) start now = record { kept = w .kept; all-same = w .written } in
+    filled-once here (record { kept = record { length-same = a .same-length; beyond-same = a .beyond }; all-same = a .all })

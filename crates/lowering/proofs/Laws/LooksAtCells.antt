@@ -32,7 +32,7 @@ looked-yes g = record { holds = λ _. g; fails = λ e. absurd (true≢false e) }
 pub looked-no : {good bad : Type 0} → bad → Looked false good bad
 looked-no b = record { holds = λ e. absurd (true≢false (sym e)); fails = λ _. b }
 
--- a look that failed speaks against more than it looked at
+-- a look that failed speaks against all that asks for what it looked at
 pub looked-failed : {good more bad : Type 0} {b : Bool} → Looked b good bad → not b ≡ true → Looked false more bad
 looked-failed {b = b} l e = looked-no (l .fails (not-true b e))
 
@@ -67,13 +67,13 @@ held-read h i k e = rw e (h .stored i k)
 
 -- ---- cells within the reach
 
--- the cell at an index of a list with a given mark
+-- the cell at an index of a list is within the reach
 abbrev pub CellWithin : ℕ → ℕ → List ℤ → ℕ → Type 0
 CellWithin reach marked t i = Within reach (cellOf marked (getD t i (pos zero)))
 
--- one more
-pub within-more : (reach marked : ℕ) (t : List ℤ) {m i : ℕ} {v : ℤ} {b : Bool} → Passed m (CellWithin reach marked t) i → i < m → v ≡ getD t i (pos zero)
-    → Decides b (Within reach (cellOf marked v)) → not b ≡ false → Passed m (CellWithin reach marked t) (i + 1)
+-- one more, as it was read
+pub within-more : (reach marked : ℕ) (t : List ℤ) {m i : ℕ} {v : ℤ} {b : Bool} → Passed m (CellWithin reach marked t) i → i < m
+    → v ≡ getD t i (pos zero) → Decides b (Within reach (cellOf marked v)) → not b ≡ false → Passed m (CellWithin reach marked t) (i + 1)
 within-more reach marked t {b = b} p h e d f = one-more p {b = b} h (rw (← e) d) f
 
 -- a stored number out of reach is under it
@@ -109,12 +109,13 @@ module _ {r : Ranges} {n i : ℕ} {t : List ℤ} where
 
 -- ---- the diagonal
 
--- the cell from a point to itself
+-- the cell from a point to itself is not below 0
 abbrev pub NotNegative : Ranges → ℕ → List ℤ → ℕ → Type 0
 NotNegative r n t x = num (pos zero) ≤ᶜ tableOf r n t x x
 
 module _ (r : Ranges) {n x : ℕ} (t : List ℤ) {v : ℤ} {z : Cell} {b : Bool} (h : x < n) (e : v ≡ getD t (x * n + x) (pos zero)) (k : z ≡ num (pos zero))
     (f : b ≡ belowᶜ (cellOf (r .mark) v) z) where
+  -- the test, of the table's cell
   test : {d : Bool} → b ≡ d → belowᶜ (tableOf r n t x x) (num (pos zero)) ≡ d
   test g = rw (← read-cell r n x x t v e, ← k) (sym f ∙ g)
 

@@ -12,6 +12,7 @@ upper-round-spec =
     (tie.spec (λ file n m k t₀ i₀ t i. Turns version1 n k (λ i. upperEdges version1 n (linkAt file m i)) i t₀ t) (λ file n m k t₀ i₀ t i. k - i)
     (λ c. turns-none (c .before .pre .1)) (λ c κs. search needs) (λ c κs. search (few, link-read, needs)) (λ c. search needs) (λ c. search needs)
     (λ c.
-    let lowers = upper-edges-lowers version1 version1-coherent _ _ _ (link-points (c .before .before .before .before .before .before .before .pre .0)) in
+    let ready = c .before .before .before .before .before .before .before .pre .0 in
+    let lowers = upper-edges-lowers version1 version1-coherent _ _ _ (link-points ready) in
     search (turns-more, lowers, ← c .before .before .before .link-of .ensures, needs))
     (λ c. search needs) (λ c. search (turns-all, needs)))
