@@ -1,6 +1,6 @@
 -- `lowers::lower_edges` meets its contract: a turn for each second link. Assumes nothing.
 use Rattle.lowering.proofs.Common.{needs, _-_, arith, version1-coherent, version1, linkAt, lowerEdges, Turns, turns-none, turns-more, turns-all, few}
-use Rattle.lowering.proofs.Common.{link-read, link-points}
+use Rattle.lowering.proofs.Common.{link-read, link-points, at-both}
 use Rattle.lowering.specs.Spread.{lowerEdge}
 use Rattle.lowering.proofs.Theory.SpreadSteps.{lower-edge-lowers}
 use Rattle.spreads.proofs.lowers.lower_edges.Statement.{statement}
@@ -15,8 +15,10 @@ abbrev μ-loop : tie.MeasureT-loop
 loop-again : tie.Need-loop-again Inv-loop μ-loop
 loop-again c =
     let s = c .before .before .before .before .before .before .before .before in
-    turns-more (lower-edge-lowers version1 version1-coherent _ _ _ (link-points (s .pre .1)) _ (s .pre .0))
-    (c .before .before .before .before .before .loop .inv) (omega arith) (cc)
+    let loop = c .before .before .before .before .before .loop in
+    turns-more (lower-edge-lowers version1 version1-coherent _ _ _ (link-points (s .pre .1)) _ (s .pre .0)) (loop .inv) (omega arith)
+    (at-both (λ a b. lowerEdge version1 (s .args .n) a b (loop .t)) (c .before .before .before .before .before .before .link-of .ensures)
+    (c .before .before .before .link-of2 .ensures) (c .before .lower-edge .ensures))
 
 pub lower-edges-spec : {M : Type 1} → statement M
 unfolding lowerEdges

@@ -1,6 +1,6 @@
 -- `uppers::upper_round` meets its contract: a turn for each link. Assumes nothing.
 use Rattle.lowering.proofs.Common.{needs, _-_, arith, version1-coherent, version1, linkAt, upperEdges, upperRound, Turns, turns-none, turns-more}
-use Rattle.lowering.proofs.Common.{turns-all, few, link-read, link-points}
+use Rattle.lowering.proofs.Common.{turns-all, few, link-read, link-points, at-read}
 use Rattle.lowering.proofs.Theory.SpreadSteps.{upper-edges-lowers}
 use Rattle.spreads.proofs.uppers.upper_round.Statement.{statement}
 use Rattle.spreads.proofs.uppers.upper_round.Tie as tie
@@ -14,8 +14,9 @@ abbrev μ-loop : tie.MeasureT-loop
 loop-again : tie.Need-loop-again Inv-loop μ-loop
 loop-again c =
     let s = c .before .before .before .before .before .before .before in
-    turns-more (upper-edges-lowers version1 version1-coherent _ _ _ (link-points (s .pre .0)))
-    (c .before .before .before .before .before .loop .inv) (omega arith) (cc)
+    let loop = c .before .before .before .before .before .loop in
+    turns-more (upper-edges-lowers version1 version1-coherent _ _ _ (link-points (s .pre .0))) (loop .inv) (omega arith)
+    (at-read (λ a. upperEdges version1 (s .args .n) a (loop .t)) (c .before .before .before .link-of .ensures) (c .before .upper-edges .ensures))
 
 pub upper-round-spec : {M : Type 1} → statement M
 unfolding upperRound

@@ -1,5 +1,5 @@
 -- `opening::case_all` meets its contract: a turn for each link. Assumes nothing.
-use Rattle.lowering.proofs.Common.{needs, _-_, arith, adding, linkAt, caseLink, caseAll, few, link-read, link-points, Turns, turns-none, turns-more, turns-all}
+use Rattle.lowering.proofs.Common.{needs, _-_, arith, adding, linkAt, caseLink, caseAll, few, link-read, link-points, at-read, Turns, turns-none, turns-more, turns-all}
 use Rattle.wide.proofs.AddStart.{adding-coherent}
 use Rattle.lowering.proofs.Theory.SweepSteps.{case-link-lowers}
 use Rattle.wide.proofs.opening.case_all.Statement.{statement}
@@ -14,8 +14,9 @@ abbrev μ-loop : tie.MeasureT-loop
 loop-again : tie.Need-loop-again Inv-loop μ-loop
 loop-again c =
     let s = c .before .before .before .before .before .before .before in
-    turns-more (case-link-lowers adding adding-coherent _ _ _ (link-points (s .pre .0)))
-    (c .before .before .before .before .before .loop .inv) (omega arith) (cc)
+    let loop = c .before .before .before .before .before .loop in
+    turns-more (case-link-lowers adding adding-coherent _ _ _ (link-points (s .pre .0))) (loop .inv) (omega arith)
+    (at-read (λ a. caseLink adding (s .args .n) a (loop .t)) (c .before .before .before .link-of .ensures) (c .before .case-link .ensures))
 
 pub case-all-spec : {M : Type 1} → statement M
 unfolding caseAll
