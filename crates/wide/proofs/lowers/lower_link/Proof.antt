@@ -3,6 +3,7 @@ use Rattle.lowering.proofs.Common.{_-_, arith, adding, linkAt, lowerLink, Turns
 use Rattle.wide.proofs.AddStart.{adding-coherent}
 use Rattle.lowering.specs.Sweep.{lowerPair}
 use Rattle.lowering.proofs.Theory.SweepSteps.{pair-lowers}
+use Rattle.lowering.proofs.Laws.LinksAsRead.{pair-at}
 use Rattle.wide.proofs.lowers.lower_link.Statement.{statement}
 use Rattle.wide.proofs.lowers.lower_link.Tie as tie
 
@@ -15,8 +16,10 @@ abbrev μ-loop : tie.MeasureT-loop
 loop-again : tie.Need-loop-again Inv-loop μ-loop
 loop-again c =
     let s = c .before .before .before .before .before .before .before .before in
-    turns-more (pair-lowers adding adding-coherent _ _ _ (link-points (s .pre .1)) _ (s .pre .0))
-    (c .before .before .before .before .before .loop .inv) (omega arith) (cc)
+    let loop = c .before .before .before .before .before .loop in
+    turns-more (pair-lowers adding adding-coherent _ _ _ (link-points (s .pre .1)) _ (s .pre .0)) (loop .inv) (omega arith)
+    (pair-at adding (s .args .n) (loop .t) (c .before .before .before .before .before .before .link-of .ensures)
+    (c .before .before .before .link-of2 .ensures) (c .before .lower-pair .ensures))
 
 pub lower-link-spec : {M : Type 1} → statement M
 unfolding lowerLink

@@ -10,8 +10,13 @@ upper-all-requires c κs =
     let s = c .before .before .before .before .before .before .before .before in
     (s .pre .0, sound-lower (s .pre .0) (search sound-joins) (c .before .before .lower-all .ensures))
 
-pub sweep-strict-spec : {M : Type 1} → statement M
+returns : tie.Need-returns
 unfolding sweepStrict
+returns c =
+    let lower = c .before .before .before .before in
+    rw (c .before .upper-all .ensures, lower .lower-all .ensures, lower .before .before .before .join-all .ensures)
+
+pub sweep-strict-spec : {M : Type 1} → statement M
 sweep-strict-spec =
     tie.close
-    (tie.spec (λ c κs. search few) (λ c κs. search sound-joins) upper-all-requires (λ c. search needs) (λ c. cc))
+    (tie.spec (λ c κs. search few) (λ c κs. search sound-joins) upper-all-requires (λ c. search needs) returns)

@@ -1,5 +1,5 @@
 -- `uppers::upper_point` meets its contract: a turn for each link. Assumes nothing.
-use Rattle.lowering.proofs.Common.{needs, _-_, arith, adding, linkAt, upperPoint, Turns, turns-none, turns-more, turns-all, few, link-read, link-points}
+use Rattle.lowering.proofs.Common.{needs, _-_, arith, adding, linkAt, upperPoint, Turns, turns-none, turns-more, turns-all, few, link-read, link-points, at-read}
 use Rattle.wide.proofs.AddStart.{adding-coherent}
 use Rattle.lowering.specs.Sweep.{upperCell}
 use Rattle.lowering.proofs.Theory.SweepSteps.{upper-cell-lowers}
@@ -15,8 +15,9 @@ abbrev μ-loop : tie.MeasureT-loop
 loop-again : tie.Need-loop-again Inv-loop μ-loop
 loop-again c =
     let s = c .before .before .before .before .before .before .before in
-    turns-more (upper-cell-lowers adding adding-coherent _ _ _ (link-points (s .pre .1)) _ (s .pre .0))
-    (c .before .before .before .before .before .loop .inv) (omega arith) (cc)
+    let loop = c .before .before .before .before .before .loop in
+    turns-more (upper-cell-lowers adding adding-coherent _ _ _ (link-points (s .pre .1)) _ (s .pre .0)) (loop .inv) (omega arith)
+    (at-read (λ a. upperCell adding (s .args .n) (s .args .x) a (loop .t)) (c .before .before .before .link-of .ensures) (c .before .upper-cell .ensures))
 
 pub upper-point-spec : {M : Type 1} → statement M
 unfolding upperPoint
