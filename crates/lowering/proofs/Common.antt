@@ -8,8 +8,6 @@ pub use lib.IntN.{pos}
 pub use lib.ListN.{getD, length}
 pub use borrow.Author.Needs.{needs}
 pub use borrow.Author.Tests.{not-false, not-true}
-pub use mir.Syntax.{w32}
-pub use mir.Val.{ofZ, toZ}
 pub use Rattle.whole.proofs.Bits.{back}
 pub use Rattle.whole.proofs.Place.{inside, square-le, within}
 pub use Rattle.rules.specs.Cells.{Within, _≤ᶜ_, num, tableOf}

@@ -7,7 +7,6 @@ use native.Mathlib.Omega.{arith}
 use lib.Dec.{T}
 use lib.IntN.{ℤ, pos, negℤ, _+ℤ_, _-ℤ_}
 use lib.Signed.{ltZ, _≤ℤ_, _<ℤ_, ≤ℤ-refl}
-use Rattle.whole.specs.Signed.{larger}
 use Rattle.whole.proofs.Order.{ints, plus-mono}
 use Rattle.whole.proofs.Larger.{larger-mono}
 use Rattle.rules.specs.Plan.{Link}

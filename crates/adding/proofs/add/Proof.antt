@@ -31,10 +31,12 @@ returns-5 c =
 pub add-spec : {M : Type 1} → statement M
 add-spec =
     tie.close
-    (tie.spec (λ c κs. search needs) (λ c κs. search needs) (λ c. search (file-refused, answered (c .before .before)))
+    (tie.spec (λ c κs. search needs) (λ c κs. search needs)
+    (λ c. search (file-refused, answered (c .before .before)))
     (λ c κs. search needs) (λ c. search needs)
     (λ c. omega (arith, cells-small _ (add-exactly _ _ .0 (done (c .before)) .0) _ (c .before .head .ensures)))
     (λ c. search (strict-short, done (c .before .before)))
-    (λ c. search (open-short, done (c .before .before .before))) (λ c. search needs)
-    (λ c. search (scratch-short, done (c .before .before .before .before))) add-to-requires (λ c. search needs)
-    (λ c. search needs) (λ c. search needs) returns-5)
+    (λ c. search (open-short, done (c .before .before .before)))
+    (λ c. search needs)
+    (λ c. search (scratch-short, done (c .before .before .before .before)))
+    add-to-requires (λ c. search needs) (λ c. search needs) (λ c. search needs) returns-5)

@@ -7,8 +7,8 @@ use Rattle.adding.proofs.add_to.Tie as tie
 pub add-to-spec : {M : Type 1} → statement M
 add-to-spec =
     tie.close
-    (tie.spec (λ c κs. search needs) (λ c. search needs) (λ c. search needs) (λ c. search needs)
-    (λ c κs. search needs) (λ c. search needs) (λ c. search needs) (λ c. search needs)
+    (tie.spec (λ c κs. search needs) (λ c. search needs) (λ c. search needs) (λ c. search needs) (λ c κs. search needs)
+    (λ c. search needs) (λ c. search needs) (λ c. search needs)
     (λ c. search (are-not, c .before .before .before .before .closed .ensures .fails, not-true))
     (λ c κs. (search, search (c .before .before .before .before .closed .ensures .holds, not-false)))
     (λ c. search needs) (λ c. search needs) (λ c. search needs) (λ c. search needs))

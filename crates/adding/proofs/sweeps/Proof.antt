@@ -25,9 +25,10 @@ returns-3 c =
 pub sweeps-spec : {M : Type 1} → statement M
 sweeps-spec =
     tie.close
-    (tie.spec (λ c. search needs) (λ c. search needs) (λ c. search needs) (λ c κs. search (few, start-within))
+    (tie.spec (λ c. search needs) (λ c. search needs) (λ c. search needs)
+    (λ c κs. search (few, start-within))
     (λ c κs. search started) (λ c κs. search needs) (λ c. search needs) (λ c. search needs)
-    (λ c. search (refused, not-true)) (λ c κs. search needs) (λ c κs. search needs) (λ c. search needs)
-    (λ c. search needs) returns-2
+    (λ c. search (refused, not-true))
+    (λ c κs. search needs) (λ c κs. search needs) (λ c. search needs) (λ c. search needs) returns-2
     (λ c κs. search (few, arith, c .before .before .before .before .all-in-reach .ensures .holds, not-false))
     (λ c. search needs) (λ c. search needs) (λ c. search needs) returns-3)

@@ -36,7 +36,10 @@ cast-result-2 c =
     rw (back h) (by-nonNeg v (omega (signed, kept h)), omega (signed, kept h, abs v))
 
 pub size-spec : {M : Type 1} → statement M
-size-spec = tie.close (tie.spec (λ c. let l = less c in rw (l .is) (fit w32 (pos (l .size)) (l .small)))
+size-spec =
+    tie.close
+    (tie.spec (λ c. let l = less c in rw (l .is) (fit w32 (pos (l .size)) (l .small)))
     (λ c. let l = less c in rw (l .is, toZ-pos w32 (l .size) (l .small)) (search needs))
     (λ c. let l = less c in rw (l .is, toZ-pos w32 (l .size) (l .small)) (search needs))
-    (λ c. let l = less c in rw (l .is, toZ-pos w32 (l .size) (l .small)) (l .more)) cast-result-2 (λ c. search needs))
+    (λ c. let l = less c in rw (l .is, toZ-pos w32 (l .size) (l .small)) (l .more))
+    cast-result-2 (λ c. search needs))

@@ -6,19 +6,9 @@ use Rattle.closed.proofs.alone.Tie as tie
 pub alone-spec : {M : Type 1} → statement M
 alone-spec =
     tie.close
-    (tie.spec (λ c κs. search needs) (λ c. refuted (c .before .all-within .ensures) (c .if1 .taken) (λ a. a .within)) (λ c κs. search needs)
+    (tie.spec (λ c κs. search needs)
+    (λ c. refuted (c .before .all-within .ensures) (c .if1 .taken) (λ a. a .within))
+    (λ c κs. search needs)
     (λ c. refuted (c .before .diagonal .ensures) (c .if2 .taken) (λ a. a .diagonal))
-    (λ c κs.
-    let one = c .before .before in
-    search (sound-by, given-by (one .before .all-within .ensures) (one .if1 .left), needs))
-    (λ c.
-    let two = c .before in
-    let one = two .before .before in
-    decides-all (c .all-joined .ensures)
-    (λ j.
-    record {
-      within = given-by (one .before .all-within .ensures) (one .if1 .left);
-      diagonal = given-by (two .before .diagonal .ensures) (two .if2 .left);
-      joined = j;
-    })
-    (λ a. a .joined)))
+    (λ c κs. let one = c .before .before in search (sound-by, given-by (one .before .all-within .ensures) (one .if1 .left), needs))
+    (λ c. let two = c .before in let one = two .before .before in decides-all (c .all-joined .ensures) (λ j. record { within = given-by (one .before .all-within .ensures) (one .if1 .left); diagonal = given-by (two .before .diagonal .ensures) (two .if2 .left); joined = j }) (λ a. a .joined)))

@@ -8,20 +8,10 @@ pub closed-spec : {M : Type 1} → statement M
 closed-spec =
     tie.close
     (tie.spec (λ c κs. search (few, needs))
-    (λ c. refuted (c .before .alone .ensures) (c .if1 .taken) (strict-alone (c .before .before .before .pre .0))) (λ c κs. search (few, needs))
+    (λ c. refuted (c .before .alone .ensures) (c .if1 .taken) (strict-alone (c .before .before .before .pre .0)))
+    (λ c κs. search (few, needs))
     (λ c. refuted (c .before .alone2 .ensures) (c .if2 .taken) (open-alone (c .before .before .before .before .before .pre .0)))
-    (λ c κs.
-    let one = c .before .before in
-    let s = one .before .before .before in
-    (s .pre .0, sound-by (s .pre .1) (given-by (one .before .alone .ensures) (one .if1 .left) .within)))
+    (λ c κs. let one = c .before .before in let s = one .before .before .before in (s .pre .0, sound-by (s .pre .1) (given-by (one .before .alone .ensures) (one .if1 .left) .within)))
     (λ c. refuted (c .before .strict-held .ensures) (c .if3 .taken) (strict-held (c .before .before .before .before .before .before .before .pre .0)))
     (λ c κs. search needs)
-    (λ c.
-    let three = c .before in
-    let two = three .before .before in
-    let one = two .before .before in
-    let ready = one .before .before .before .pre .0 in
-    decides-all (c .open-held .ensures)
-    (closed-by ready (given-by (one .before .alone .ensures) (one .if1 .left)) (given-by (two .before .alone2 .ensures) (two .if2 .left))
-    (given-by (three .before .strict-held .ensures) (three .if3 .left)))
-    (open-held ready)))
+    (λ c. let three = c .before in let two = three .before .before in let one = two .before .before in let ready = one .before .before .before .pre .0 in decides-all (c .open-held .ensures) (closed-by ready (given-by (one .before .alone .ensures) (one .if1 .left)) (given-by (two .before .alone2 .ensures) (two .if2 .left)) (given-by (three .before .strict-held .ensures) (three .if3 .left))) (open-held ready)))

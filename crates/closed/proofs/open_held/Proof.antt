@@ -6,8 +6,7 @@ use Rattle.closed.proofs.open_held.Tie as tie
 pub open-held-spec : {M : Type 1} → statement M
 open-held-spec =
     tie.close
-    (tie.spec (λ c κs. search (few, needs)) (λ c. refuted (c .before .all-under .ensures) (c .if1 .taken) (λ h. h .under))
+    (tie.spec (λ c κs. search (few, needs))
+    (λ c. refuted (c .before .all-under .ensures) (c .if1 .taken) (λ h. h .under))
     (λ c κs. search (link-range, few, needs))
-    (λ c.
-    let under = given-by (c .before .before .all-under .ensures) (c .before .if1 .left) in
-    decides-all (c .cases-held .ensures) (λ h. record { under = under; cases = h }) (λ h. h .cases)))
+    (λ c. let under = given-by (c .before .before .all-under .ensures) (c .before .if1 .left) in decides-all (c .cases-held .ensures) (λ h. record { under = under; cases = h }) (λ h. h .cases)))

@@ -8,5 +8,7 @@ use Rattle.plan.proofs.front.Tie as tie
 pub front-spec : {M : Type 1} → statement M
 front-spec =
     tie.close
-    (tie.spec (λ c κs. search needs) (λ c κs. search needs) (λ c κs. search needs) (λ c. search front-stop)
-    (λ c κs. search needs) (λ c. search front-next))
+    (tie.spec (λ c κs. search needs) (λ c κs. search needs) (λ c κs. search needs)
+    (λ c. search front-stop)
+    (λ c κs. search needs)
+    (λ c. search front-next))

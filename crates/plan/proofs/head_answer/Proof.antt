@@ -13,5 +13,10 @@ head-answer-spec =
     tie.close
     (tie.spec (λ c. simp (lt-leb _ _ (c .if1 .taken)))
     (λ c. simp (le-leb _ _ (c .before .before .if1 .left), ne-eqb _ _ (c .if2 .taken)))
-    (λ c κs. search needs) (λ c. search bad-points) (λ c κs. search needs) (λ c. search bad-counts) (λ c κs. search needs)
-    (λ c. search bad-layout) (λ c. search head-done))
+    (λ c κs. search needs)
+    (λ c. search bad-points)
+    (λ c κs. search needs)
+    (λ c. search bad-counts)
+    (λ c κs. search needs)
+    (λ c. search bad-layout)
+    (λ c. search head-done))

@@ -16,5 +16,7 @@ pub sound-with-spec : {M : Type 1} → statement M
 sound-with-spec =
     tie.close
     (tie.spec (λ c κs. search needs) (λ c κs. search needs) (λ c. search add-stop) (λ c κs. search needs)
-    (λ c κs. search needs) (λ c. search (add-own, fit (c .before))) (λ c κs. search needs)
+    (λ c κs. search needs)
+    (λ c. search (add-own, fit (c .before)))
+    (λ c κs. search needs)
     (λ c. search (add-next, fit (c .before .before))))

@@ -13,8 +13,10 @@ done c = search is-accepted
 pub check-spec : {M : Type 1} → statement M
 check-spec =
     tie.close
-    (tie.spec (λ c κs. search needs) (λ c κs. search needs) (λ c. search file-refused) (λ c κs. search needs)
-    (λ c. search needs) (λ c. omega (arith, cells-small _ (done (c .before)) _ (c .before .head .ensures)))
+    (tie.spec (λ c κs. search needs) (λ c κs. search needs)
+    (λ c. search file-refused)
+    (λ c κs. search needs) (λ c. search needs)
+    (λ c. omega (arith, cells-small _ (done (c .before)) _ (c .before .head .ensures)))
     (λ c. search (strict-short, done (c .before .before)))
     (λ c. search (open-short, done (c .before .before .before)))
     (λ c κs. search (ready-of, done (c .before .before .before)))

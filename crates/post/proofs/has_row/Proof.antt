@@ -7,4 +7,6 @@ use Rattle.post.proofs.has_row.Tie as tie
 pub has-row-spec : {M : Type 1} → statement M
 has-row-spec =
     tie.close
-    (tie.spec (λ c. search too-many) (λ c. omega (arith, square-le (c .if1 .left))) (λ c. search else))
+    (tie.spec (λ c. search too-many)
+    (λ c. omega (arith, square-le (c .if1 .left)))
+    (λ c. search else))

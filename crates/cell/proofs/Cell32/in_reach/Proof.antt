@@ -10,7 +10,10 @@ pub in-reach-spec : {M : Type 1} → statement M
 unfolding version1
 in-reach-spec =
     tie.close
-    (tie.spec (λ c κs. search needs) (λ c. search (reach-mark, is-mark))
-    (λ c κs. search needs) (λ c. search (reach-above (version1 .reach) (cell (c .before .before)), tested))
-    (λ c κs. search needs) (λ c. search (reach-below (version1 .reach) (cell (c .before .before .before .before)), tested))
+    (tie.spec (λ c κs. search needs)
+    (λ c. search (reach-mark, is-mark))
+    (λ c κs. search needs)
+    (λ c. search (reach-above (version1 .reach) (cell (c .before .before)), tested))
+    (λ c κs. search needs)
+    (λ c. search (reach-below (version1 .reach) (cell (c .before .before .before .before)), tested))
     (λ c. search (reach-within (version1 .reach) (cell (c .before .before .before .before)), tested)))

@@ -7,4 +7,6 @@ use Rattle.closed.proofs.bounds.under.Tie as tie
 pub under-spec : {M : Type 1} → statement M
 under-spec =
     tie.close
-    (tie.spec (λ c κs. search needs) (λ c. search (exceeds, needs)) (λ c. search (exceeds-not, needs)))
+    (tie.spec (λ c κs. search needs)
+    (λ c. search (exceeds, needs))
+    (λ c. search (exceeds-not, needs)))

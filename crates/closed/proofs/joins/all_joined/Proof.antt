@@ -4,9 +4,15 @@ use Rattle.closed.specs.Parts.{MiddleJoined}
 use Rattle.closed.proofs.joins.all_joined.Statement.{statement}
 use Rattle.closed.proofs.joins.all_joined.Tie as tie
 
+abbrev Inv-loop : tie.InvT-loop
+Inv-loop t n y₀ y = Passed n (MiddleJoined n (tableOf version1 n t)) y
+
 pub all-joined-spec : {M : Type 1} → statement M
 all-joined-spec =
     tie.close
-    (tie.spec (λ t n y₀ y. Passed n (MiddleJoined n (tableOf version1 n t)) y) (λ t n y₀ y. n - y)
-    (λ c. none-yet) (λ c κs. search needs) (λ c. search (one-failed (c .before .before .before .loop .inv), needs)) (λ c. search needs)
-    (λ c. search needs) (λ c. search (one-more, needs)) (λ c. all-passed (c .before .loop .inv) (omega arith)))
+    (tie.spec Inv-loop (λ t n y₀ y. n - y)
+    (λ c. none-yet) (λ c κs. search needs)
+    (λ c. search (one-failed (c .before .before .before .loop .inv), needs))
+    (λ c. search needs) (λ c. search needs)
+    (λ c. search (one-more, needs))
+    (λ c. all-passed (c .before .loop .inv) (omega arith)))

@@ -7,6 +7,4 @@ pub case-held-spec : {M : Type 1} → statement M
 case-held-spec =
     tie.close
     (tie.spec (λ c. search needs) (λ c. search needs) (λ c κs. search needs) (λ c κs. search needs)
-    (λ c.
-    let s = c .before .before .before .before in
-    rw (← span-cell {n = s .args .link .short} (omega (arith, s .pre .0 .order, s .pre .0 .most)) (c .before .of .ensures)) (c .at-most .ensures)))
+    (λ c. let s = c .before .before .before .before in rw (← span-cell {n = s .args .link .short} (omega (arith, s .pre .0 .order, s .pre .0 .most)) (c .before .of .ensures)) (c .at-most .ensures)))

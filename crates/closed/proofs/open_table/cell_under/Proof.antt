@@ -7,6 +7,4 @@ pub cell-under-spec : {M : Type 1} → statement M
 cell-under-spec =
     tie.close
     (tie.spec (λ c κs. search needs) (λ c κs. search needs)
-    (λ c.
-    let a = c .before .before .args in
-    rw (← read-cell version1 (a .n) (a .x) (a .y) (a .strict .now) _ (c .before .get .ensures)) (c .at-most .ensures)))
+    (λ c. let a = c .before .before .args in rw (← read-cell version1 (a .n) (a .x) (a .y) (a .strict .now) _ (c .before .get .ensures)) (c .at-most .ensures)))

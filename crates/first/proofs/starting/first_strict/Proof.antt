@@ -31,5 +31,7 @@ pub first-strict-spec : {M : Type 1} → statement M
 unfolding firstStrict
 first-strict-spec =
     tie.close
-    (tie.spec (λ c. omega (arith, square-le (few (c .before .before .pre .0)))) (λ c κs. search needs) (λ c κs. search (few, sound-marks, needs))
+    (tie.spec (λ c. omega (arith, square-le (few (c .before .before .pre .0))))
+    (λ c κs. search needs)
+    (λ c κs. search (few, sound-marks, needs))
     limit-all-requires start-all-requires link-all-requires (λ c. search needs) (λ c. cc))

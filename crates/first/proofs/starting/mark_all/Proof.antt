@@ -3,13 +3,16 @@ use Rattle.lowering.proofs.Common.{needs, _≡_, _-_, pos, arith, version1, num
 use Rattle.first.proofs.starting.mark_all.Statement.{statement}
 use Rattle.first.proofs.starting.mark_all.Tie as tie
 
+abbrev Inv-loop : tie.InvT-loop
+Inv-loop t₀ count none i₀ t i = Writing count (λ j v. v ≡ pos (version1 .mark)) i t₀ t
+
 pub mark-all-spec : {M : Type 1} → statement M
 unfolding version1
 mark-all-spec =
     tie.close
-    (tie.spec (λ t₀ count none i₀ t i. Writing count (λ j v. v ≡ pos (version1 .mark)) i t₀ t) (λ t₀ count none i₀ t i. count - i)
-    (λ c κs. search needs) (λ c. writing-none) (λ c. search needs) (λ c. search needs) (λ c. search needs) (λ c. search needs)
-    (λ c.
-    let e : c .before .before .before .mark .result .v ≡ pos (version1 .mark) = number-of (version1 .mark) (c .before .before .before .mark .ensures) in
-    search (writing-more, e, needs))
-    (λ c. search needs) (λ c. all-marked version1 (c .before .loop .inv) (omega arith) (search needs)))
+    (tie.spec Inv-loop (λ t₀ count none i₀ t i. count - i)
+    (λ c κs. search needs) (λ c. writing-none) (λ c. search needs) (λ c. search needs) (λ c. search needs)
+    (λ c. search needs)
+    (λ c. let e : c .before .before .before .mark .result .v ≡ pos (version1 .mark) = number-of (version1 .mark) (c .before .before .before .mark .ensures) in search (writing-more, e, needs))
+    (λ c. search needs)
+    (λ c. all-marked version1 (c .before .loop .inv) (omega arith) (search needs)))

@@ -5,11 +5,16 @@ use Rattle.lowering.proofs.Theory.SweepSteps.{start-lowers}
 use Rattle.first.proofs.starting.start_all.Statement.{statement}
 use Rattle.first.proofs.starting.start_all.Tie as tie
 
+abbrev Inv-loop : tie.InvT-loop
+Inv-loop t₀ n x₀ t x = Turns version1 n n (λ x. lowerCell version1 n x 0 (num (pos 0))) x t₀ t
+
 pub start-all-spec : {M : Type 1} → statement M
 unfolding startAll
 start-all-spec =
     tie.close
-    (tie.spec (λ t₀ n x₀ t x. Turns version1 n n (λ x. lowerCell version1 n x 0 (num (pos 0))) x t₀ t) (λ t₀ n x₀ t x. n - x)
-    (λ c. turns-none (c .pre .1)) (λ c κs. search needs) (λ c κs. search needs) (λ c. search needs) (λ c. search needs)
-    (λ c. search (turns-more, start-lowers version1 version1-coherent, lowering-by, span-cell, needs)) (λ c. search needs)
+    (tie.spec Inv-loop (λ t₀ n x₀ t x. n - x)
+    (λ c. turns-none (c .pre .1))
+    (λ c κs. search needs) (λ c κs. search needs) (λ c. search needs) (λ c. search needs)
+    (λ c. search (turns-more, start-lowers version1 version1-coherent, lowering-by, span-cell, needs))
+    (λ c. search needs)
     (λ c. search (turns-all, needs)))

@@ -8,5 +8,8 @@ pub join-row-spec : {M : Type 1} → statement M
 unfolding rowBy
 join-row-spec =
     tie.close
-    (tie.spec (λ c κs. search needs) (λ c κs. search needs) (λ c. search needs) (λ c. search (row-at-mark, mark-read, needs))
-    (λ c κs. search (stored-summed, read-stored, needs)) (λ c. search needs) (λ c. search (join-row-is, needs)))
+    (tie.spec (λ c κs. search needs) (λ c κs. search needs) (λ c. search needs)
+    (λ c. search (row-at-mark, mark-read, needs))
+    (λ c κs. search (stored-summed, read-stored, needs))
+    (λ c. search needs)
+    (λ c. search (join-row-is, needs)))

@@ -8,6 +8,6 @@ pub limit-at-spec : {M : Type 1} → statement M
 unfolding limitAt
 limit-at-spec =
     tie.close
-    (tie.spec (λ c. search needs) (λ c. search needs) (λ c κs. search needs) (λ c. search needs)
-    (λ c κs. search needs) (λ c. search needs) (λ c κs. search needs)
+    (tie.spec (λ c. search needs) (λ c. search needs) (λ c κs. search needs) (λ c. search needs) (λ c κs. search needs)
+    (λ c. search needs) (λ c κs. search needs)
     (λ c. cc (toZ-ofZ w32 (c .signed-at .result) (sfits-of (c .signed-at .ok)))))

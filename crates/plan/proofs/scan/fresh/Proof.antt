@@ -14,5 +14,8 @@ pub fresh-spec : {M : Type 1} → statement M
 fresh-spec =
     tie.close
     (tie.spec Inv-loop (λ file m i con j₀ j. j)
-    (λ c. refl) (λ c. omega arith) (λ c κs. search needs) (λ c. search (fresh-stop, arith)) (λ c. omega arith)
-    (λ c. search (fresh-next, arith)) (λ c. search (fresh-end, arith)))
+    (λ c. refl) (λ c. omega arith) (λ c κs. search needs)
+    (λ c. search (fresh-stop, arith))
+    (λ c. omega arith)
+    (λ c. search (fresh-next, arith))
+    (λ c. search (fresh-end, arith)))

@@ -15,5 +15,8 @@ limits-spec =
     tie.close
     (tie.spec Inv-loop (λ file n m i₀ i. m - i)
     (λ c. (omega arith, rw sub-zero))
-    (λ c κs. search needs) (λ c κs. search needs) (λ c. search (limits-stop, arith)) (λ c. omega arith)
-    (λ c. omega arith) (λ c. (omega arith, search (limits-next, arith))) (λ c. search (limits-end, arith)))
+    (λ c κs. search needs) (λ c κs. search needs)
+    (λ c. search (limits-stop, arith))
+    (λ c. omega arith) (λ c. omega arith)
+    (λ c. (omega arith, search (limits-next, arith)))
+    (λ c. search (limits-end, arith)))

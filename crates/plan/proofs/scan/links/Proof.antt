@@ -17,6 +17,10 @@ links-spec =
     tie.close
     (tie.spec Inv-loop (λ file n m k i₀ i. k - i)
     (λ c. (omega arith, rw sub-zero))
-    (λ c κs. search needs) (λ c κs. search needs) (λ c. search (links-stop, arith)) (λ c κs. search needs)
-    (λ c. search (links-repeat, arith)) (λ c. omega arith) (λ c. omega arith)
-    (λ c. (omega arith, search (links-next, arith))) (λ c. search (links-end, arith)))
+    (λ c κs. search needs) (λ c κs. search needs)
+    (λ c. search (links-stop, arith))
+    (λ c κs. search needs)
+    (λ c. search (links-repeat, arith))
+    (λ c. omega arith) (λ c. omega arith)
+    (λ c. (omega arith, search (links-next, arith)))
+    (λ c. search (links-end, arith)))

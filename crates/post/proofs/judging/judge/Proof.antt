@@ -14,6 +14,7 @@ judge-sound-requires c κs =
 pub judge-spec : {M : Type 1} → statement M
 judge-spec =
     tie.close
-    (tie.spec (λ c κs. search needs) (λ c κs. search needs) (λ c. search (lent-judged, not-accepted))
+    (tie.spec (λ c κs. search needs) (λ c κs. search needs)
+    (λ c. search (lent-judged, not-accepted))
     (λ c κs. search needs) (λ c. search needs) judge-sound-requires (λ c. search needs) (λ c. search needs)
     (λ c. search needs))

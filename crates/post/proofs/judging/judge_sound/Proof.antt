@@ -13,6 +13,6 @@ pub judge-sound-spec : {M : Type 1} → statement M
 judge-sound-spec =
     tie.close
     (tie.spec (λ c κs. search needs) (λ c. search needs) (λ c. search needs)
-    (λ c. search (judged-written, c .before .before .before .settle .ensures .holds)) (λ c. search needs)
-    (λ c κs. search needs) (λ c. search needs) (λ c κs. search needs) (λ c. search needs) (λ c. search needs)
-    returns-2)
+    (λ c. search (judged-written, c .before .before .before .settle .ensures .holds))
+    (λ c. search needs) (λ c κs. search needs) (λ c. search needs) (λ c κs. search needs) (λ c. search needs)
+    (λ c. search needs) returns-2)

@@ -13,8 +13,10 @@ done c = search is-accepted
 pub lent-spec : {M : Type 1} → statement M
 lent-spec =
     tie.close
-    (tie.spec (λ c κs. search needs) (λ c κs. search needs) (λ c. search lent-refused) (λ c κs. search needs)
-    (λ c. search needs) (λ c. omega (arith, cells-small _ (done (c .before)) _ (c .before .head .ensures)))
+    (tie.spec (λ c κs. search needs) (λ c κs. search needs)
+    (λ c. search lent-refused)
+    (λ c κs. search needs) (λ c. search needs)
+    (λ c. omega (arith, cells-small _ (done (c .before)) _ (c .before .head .ensures)))
     (λ c. search (lent-short-strict, done (c .before .before)))
     (λ c. search (lent-short-open, done (c .before .before .before)))
     (λ c. search (lent-done, done (c .before .before .before))))

@@ -18,7 +18,9 @@ timed-requires c κs =
 pub earliest-spec : {M : Type 1} → statement M
 earliest-spec =
     tie.close
-    (tie.spec (λ c κs. search needs) (λ c κs. search needs) (λ c. search (lent-timed, not-accepted))
-    (λ c κs. search needs) (λ c. search needs) (λ c. search (times-short, enough (c .before .before)))
-    (λ c. search (times-links, enough (c .before .before .before))) timed-requires (λ c. search needs)
-    (λ c. search needs) (λ c. search needs) (λ c. search needs))
+    (tie.spec (λ c κs. search needs) (λ c κs. search needs)
+    (λ c. search (lent-timed, not-accepted))
+    (λ c κs. search needs) (λ c. search needs)
+    (λ c. search (times-short, enough (c .before .before)))
+    (λ c. search (times-links, enough (c .before .before .before)))
+    timed-requires (λ c. search needs) (λ c. search needs) (λ c. search needs) (λ c. search needs))

@@ -14,5 +14,6 @@ pub timed-spec : {M : Type 1} → statement M
 timed-spec =
     tie.close
     (tie.spec (λ c κs. search needs) (λ c κs. search needs) (λ c. search needs) (λ c. search needs)
-    (λ c. search (refused-timed, not-accepted)) times-all-requires (λ c. search needs) (λ c. search needs)
-    (λ c. search needs) (λ c. search (timed-done, written-of, is-accepted)))
+    (λ c. search (refused-timed, not-accepted))
+    times-all-requires (λ c. search needs) (λ c. search needs) (λ c. search needs)
+    (λ c. search (timed-done, written-of, is-accepted)))

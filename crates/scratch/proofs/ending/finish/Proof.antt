@@ -7,8 +7,6 @@ pub finish-spec : {M : Type 1} → statement M
 finish-spec =
     tie.close
     (tie.spec (λ c. search needs)
-    (λ c κs.
-    let s = c .before .before in
-    (omega (arith, s .pre .1), omega (arith, s .pre .2), λ i h. s .pre .4 i (omega arith)))
-    (λ c κs. search needs) (λ c. search needs) (λ c κs. search needs) (λ c. search needs) (λ c. search needs) (λ c. search needs)
-    (λ c. search needs))
+    (λ c κs. let s = c .before .before in (omega (arith, s .pre .1), omega (arith, s .pre .2), λ i h. s .pre .4 i (omega arith)))
+    (λ c κs. search needs) (λ c. search needs) (λ c κs. search needs) (λ c. search needs) (λ c. search needs)
+    (λ c. search needs) (λ c. search needs))

@@ -16,4 +16,5 @@ pub narrow-open-spec : {M : Type 1} → statement M
 narrow-open-spec =
     tie.close
     (tie.spec (λ c. search needs) (λ c. search needs) (λ c. search needs) (λ c. search needs) (λ c. search needs)
-    narrow-requires (λ c. search needs) (λ c. rw rest at (c .before .narrow .ensures)))
+    narrow-requires (λ c. search needs)
+    (λ c. rw rest at (c .before .narrow .ensures)))

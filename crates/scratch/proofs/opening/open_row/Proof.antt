@@ -9,11 +9,18 @@ use Rattle.scratch.proofs.ScratchParts.{half-room, part-read, Opening, 
 use Rattle.scratch.proofs.opening.open_row.Statement.{statement}
 use Rattle.scratch.proofs.opening.open_row.Tie as tie
 
+abbrev Inv-loop : tie.InvT-loop
+Inv-loop t₀ n x y₀ t y = Opening adding n n (openCell adding n (strictPart n t₀) x) y t₀ t
+
 pub open-row-spec : {M : Type 1} → statement M
 unfolding openRow
 open-row-spec =
     tie.close
-    (tie.spec (λ t₀ n x y₀ t y. Opening adding n n (openCell adding n (strictPart n t₀) x) y t₀ t) (λ t₀ n x y₀ t y. n - y)
-    (λ c. opening-none (c .pre .2)) (λ c κs. search (half-room, opening-both, needs)) (λ c κs. search (opening-both, needs)) (λ c. search needs)
-    (λ c. search needs) (λ c. search (opening-more, open-cell-lowers adding adding-coherent, open-cell-is, part-read, needs)) (λ c. search needs)
+    (tie.spec Inv-loop (λ t₀ n x y₀ t y. n - y)
+    (λ c. opening-none (c .pre .2))
+    (λ c κs. search (half-room, opening-both, needs))
+    (λ c κs. search (opening-both, needs))
+    (λ c. search needs) (λ c. search needs)
+    (λ c. search (opening-more, open-cell-lowers adding adding-coherent, open-cell-is, part-read, needs))
+    (λ c. search needs)
     (λ c. search (opening-all, needs)))

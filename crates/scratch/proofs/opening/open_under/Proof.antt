@@ -8,11 +8,17 @@ use Rattle.scratch.proofs.ScratchParts.{Opening, opening-none, opening-
 use Rattle.scratch.proofs.opening.open_under.Statement.{statement}
 use Rattle.scratch.proofs.opening.open_under.Tie as tie
 
+abbrev Inv-loop : tie.InvT-loop
+Inv-loop t₀ n x₀ t x = Opening adding n n (openRow adding n (strictPart n t₀)) x t₀ t
+
 pub open-under-spec : {M : Type 1} → statement M
 unfolding openAll
 open-under-spec =
     tie.close
-    (tie.spec (λ t₀ n x₀ t x. Opening adding n n (openRow adding n (strictPart n t₀)) x t₀ t) (λ t₀ n x₀ t x. n - x)
-    (λ c. opening-none (c .pre .1)) (λ c κs. search (opening-both, needs)) (λ c. search needs) (λ c. search needs)
+    (tie.spec Inv-loop (λ t₀ n x₀ t x. n - x)
+    (λ c. opening-none (c .pre .1))
+    (λ c κs. search (opening-both, needs))
+    (λ c. search needs) (λ c. search needs)
     (λ c. search (opening-more, open-row-lowers adding adding-coherent, ← c .before .before .before .before .loop .inv .strict-same, needs))
-    (λ c. search needs) (λ c. search (opening-all, needs)))
+    (λ c. search needs)
+    (λ c. search (opening-all, needs)))

@@ -7,8 +7,9 @@ use Rattle.scratch.proofs.settling.both_fair.Tie as tie
 pub both-fair-spec : {M : Type 1} → statement M
 both-fair-spec =
     tie.close
-    (tie.spec (λ c. search needs) (λ c. search (front-length, half-room)) (λ c κs. search needs)
-    (λ c. search (looked-no, inl, c .before .fair .ensures .fails, not-true)) (λ c. search needs) (λ c. search needs)
-    (λ c. search needs) (λ c. search needs) (λ c κs. search rest)
-    (λ c. looked-also (c .before .before .before .fair .ensures .holds (not-false _ (c .before .before .if1 .left)))
-    (rw rest at (c .fair2 .ensures))))
+    (tie.spec (λ c. search needs)
+    (λ c. search (front-length, half-room))
+    (λ c κs. search needs)
+    (λ c. search (looked-no, inl, c .before .fair .ensures .fails, not-true))
+    (λ c. search needs) (λ c. search needs) (λ c. search needs) (λ c. search needs) (λ c κs. search rest)
+    (λ c. looked-also (c .before .before .before .fair .ensures .holds (not-false _ (c .before .before .if1 .left))) (rw rest at (c .fair2 .ensures))))

@@ -21,7 +21,10 @@ add-result c =
 pub both-heights-spec : {M : Type 1} → statement M
 both-heights-spec =
     tie.close
-    (tie.spec (λ c. search needs) (λ c. search (front-length, half-room)) (λ c κs. search (arith, square-le, sound-held))
+    (tie.spec (λ c. search needs)
+    (λ c. search (front-length, half-room))
+    (λ c κs. search (arith, square-le, sound-held))
     (λ c. search needs) (λ c. search needs) (λ c. search needs) (λ c. search needs)
-    (λ c κs. search (arith, square-le, sound-held, rest)) add-result
+    (λ c κs. search (arith, square-le, sound-held, rest))
+    add-result
     (λ c. omega (arith, rw rest at (c .height-all2 .ensures))))

@@ -28,7 +28,13 @@ pub settle-spec : {M : Type 1} → statement M
 settle-spec =
     tie.close
     (tie.spec Inv-loop μ-loop
-    (λ c κs. search few) (λ c. search sweeping-none) (λ c κs. search) (λ c κs. search (few, sweeping-both))
-    (λ c. search sweeping-length) (λ c. search (ended-no, c .before .both-fair .ensures .fails, not-true))
-    (λ c κs. search (few, sweeping-both)) (λ c. search sweeping-length) returns-2 loop-less
+    (λ c κs. search few)
+    (λ c. search sweeping-none)
+    (λ c κs. search)
+    (λ c κs. search (few, sweeping-both))
+    (λ c. search sweeping-length)
+    (λ c. search (ended-no, c .before .both-fair .ensures .fails, not-true))
+    (λ c κs. search (few, sweeping-both))
+    (λ c. search sweeping-length)
+    returns-2 loop-less
     (λ c. search sweeping-more))

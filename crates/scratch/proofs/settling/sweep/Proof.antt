@@ -13,5 +13,7 @@ sweep-last-requires c κs =
 pub sweep-spec : {M : Type 1} → statement M
 sweep-spec =
     tie.close
-    (tie.spec (λ c κs. search needs) (λ c κs. search (few, both-first)) sweep-last-requires (λ c. search needs)
+    (tie.spec (λ c κs. search needs)
+    (λ c κs. search (few, both-first))
+    sweep-last-requires (λ c. search needs)
     (λ c. (cc, search open-swept)))

@@ -7,5 +7,7 @@ use Rattle.scratch.proofs.starting.begin.Tie as tie
 pub begin-spec : {M : Type 1} → statement M
 begin-spec =
     tie.close
-    (tie.spec (λ c. search needs) (λ c κs. search needs) (λ c κs. search (widened-sound, needs)) (λ c κs. search needs) (λ c. search needs)
+    (tie.spec (λ c. search needs) (λ c κs. search needs)
+    (λ c κs. search (widened-sound, needs))
+    (λ c κs. search needs) (λ c. search needs)
     (λ c. search (begun-of, needs)))

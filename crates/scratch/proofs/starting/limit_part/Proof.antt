@@ -10,7 +10,4 @@ limit-part-spec =
     (tie.spec (λ c. search needs) (λ c. search needs)
     (λ c. front-length (c .before .args .n * c .before .args .n) (c .before .args .t .now) (omega (arith, c .before .pre .2)))
     (λ c κs. search needs) (λ c. search needs)
-    (λ c.
-    let s = c .before .before .before in
-    let done = c .before .limit-cell in
-    front-back (s .args .n * s .args .n) (s .args .t .now) (omega (arith, s .pre .2)) (done .kept .0) (done .ensures)))
+    (λ c. let s = c .before .before .before in let done = c .before .limit-cell in front-back (s .args .n * s .args .n) (s .args .t .now) (omega (arith, s .pre .2)) (done .kept .0) (done .ensures)))

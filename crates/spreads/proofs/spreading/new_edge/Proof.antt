@@ -7,5 +7,9 @@ use Rattle.spreads.proofs.spreading.new_edge.Tie as tie
 pub new-edge-spec : {M : Type 1} → statement M
 new-edge-spec =
     tie.close
-    (tie.spec (λ c κs. search needs) (λ c κs. search needs) (λ c κs. search needs) (λ c κs. search (kept-stored, needs)) (λ c. search needs)
-    (λ c. search (new-edge-is, needs)) (λ c. search needs) (λ c. search (new-edge-stays, needs)))
+    (tie.spec (λ c κs. search needs) (λ c κs. search needs) (λ c κs. search needs)
+    (λ c κs. search (kept-stored, needs))
+    (λ c. search needs)
+    (λ c. search (new-edge-is, needs))
+    (λ c. search needs)
+    (λ c. search (new-edge-stays, needs)))

@@ -7,9 +7,11 @@ use Rattle.spreads.proofs.spreading.spread_row.Tie as tie
 pub spread-row-spec : {M : Type 1} → statement M
 spread-row-spec =
     tie.close
-    (tie.spec (λ c κs. search needs) (λ c κs. search (read-stored, needs)) (λ c κs. search needs) (λ c κs. search needs)
-    (λ c κs. search (way-summed, read-stored, needs)) (λ c. search needs) (λ c. search (spread-row-is, needs)) (λ c. search needs)
-    (λ c.
-    let get = c .before .before .before .before .before .get in
-    let get2 = c .before .before .get2 in
-    search (spread-row-stays, get .ensures, c .before .before .before .before .add .ensures, get2 .ensures, c .before .below .ensures, c .if1 .left)))
+    (tie.spec (λ c κs. search needs)
+    (λ c κs. search (read-stored, needs))
+    (λ c κs. search needs) (λ c κs. search needs)
+    (λ c κs. search (way-summed, read-stored, needs))
+    (λ c. search needs)
+    (λ c. search (spread-row-is, needs))
+    (λ c. search needs)
+    (λ c. let get = c .before .before .before .before .before .get in let get2 = c .before .before .get2 in search (spread-row-stays, get .ensures, c .before .before .before .before .add .ensures, get2 .ensures, c .before .below .ensures, c .if1 .left)))

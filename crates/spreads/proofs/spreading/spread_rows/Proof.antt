@@ -5,10 +5,15 @@ use Rattle.lowering.specs.Spread.{spreadRow}
 use Rattle.spreads.proofs.spreading.spread_rows.Statement.{statement}
 use Rattle.spreads.proofs.spreading.spread_rows.Tie as tie
 
+abbrev Inv-loop : tie.InvT-loop
+Inv-loop t₀ n a b w first last x₀ t x = Stretch version1 n (spreadRow version1 n a b (cell32 (w .v))) first last x t₀ t
+
 pub spread-rows-spec : {M : Type 1} → statement M
 spread-rows-spec =
     tie.close
-    (tie.spec (λ t₀ n a b w first last x₀ t x. Stretch version1 n (spreadRow version1 n a b (cell32 (w .v))) first last x t₀ t)
-    (λ t₀ n a b w first last x₀ t x. last - x)
-    (λ c. stretch-none (c .pre .3) (c .pre .5)) (λ c κs. search needs) (λ c. search needs) (λ c. search needs)
-    (λ c. search (stretch-more, spread-row-lowers version1 version1-coherent, needs)) (λ c. search needs) (λ c. search (stretch-all, needs)))
+    (tie.spec Inv-loop (λ t₀ n a b w first last x₀ t x. last - x)
+    (λ c. stretch-none (c .pre .3) (c .pre .5))
+    (λ c κs. search needs) (λ c. search needs) (λ c. search needs)
+    (λ c. search (stretch-more, spread-row-lowers version1 version1-coherent, needs))
+    (λ c. search needs)
+    (λ c. search (stretch-all, needs)))

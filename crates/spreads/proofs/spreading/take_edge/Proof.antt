@@ -7,6 +7,9 @@ use Rattle.spreads.proofs.spreading.take_edge.Tie as tie
 pub take-edge-spec : {M : Type 1} → statement M
 take-edge-spec =
     tie.close
-    (tie.spec (λ c κs. search needs) (λ c κs. search (read-stored, needs)) (λ c κs. search needs) (λ c κs. search needs) (λ c κs. search needs)
-    (λ c. search needs) (λ c. search (take-edge-closes, span-cell, needs)) (λ c κs. search needs) (λ c. search needs)
+    (tie.spec (λ c κs. search needs)
+    (λ c κs. search (read-stored, needs))
+    (λ c κs. search needs) (λ c κs. search needs) (λ c κs. search needs) (λ c. search needs)
+    (λ c. search (take-edge-closes, span-cell, needs))
+    (λ c κs. search needs) (λ c. search needs)
     (λ c. search (take-edge-spreads, span-cell, needs)))

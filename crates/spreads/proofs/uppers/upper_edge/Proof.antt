@@ -7,8 +7,7 @@ use Rattle.spreads.proofs.uppers.upper_edge.Tie as tie
 pub upper-edge-spec : {M : Type 1} → statement M
 upper-edge-spec =
     tie.close
-    (tie.spec (λ c. search needs) (λ c. search needs) (λ c κs. search needs) (λ c κs. search (read-stored, needs)) (λ c κs. search needs)
-    (λ c. search needs)
-    (λ c.
-    let s = c .before .before .before .before .before .before .before .before in
-    search (upper-edge-is, c .before .before .upper .ensures (linkOf (s .args .a)) refl refl, needs)))
+    (tie.spec (λ c. search needs) (λ c. search needs) (λ c κs. search needs)
+    (λ c κs. search (read-stored, needs))
+    (λ c κs. search needs) (λ c. search needs)
+    (λ c. let s = c .before .before .before .before .before .before .before .before in search (upper-edge-is, c .before .before .upper .ensures (linkOf (s .args .a)) refl refl, needs)))

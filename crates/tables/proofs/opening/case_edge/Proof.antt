@@ -9,6 +9,4 @@ unfolding caseEdge
 case-edge-spec =
     tie.close
     (tie.spec (λ c. search needs) (λ c. search needs) (λ c κs. search needs) (λ c κs. search needs) (λ c. search needs)
-    (λ c.
-    let s = c .before .before .before .before .before .before in
-    search (edge-by, span-cell {n = s .args .a .short} (omega (arith, s .pre .1 .order, s .pre .1 .most)) (c .before .before .of .ensures), needs)))
+    (λ c. let s = c .before .before .before .before .before .before in search (edge-by, span-cell {n = s .args .a .short} (omega (arith, s .pre .1 .order, s .pre .1 .most)) (c .before .before .of .ensures), needs)))

@@ -8,5 +8,7 @@ use Rattle.tables.proofs.opening.follow_link.Tie as tie
 pub follow-link-spec : {M : Type 1} → statement M
 follow-link-spec =
     tie.close
-    (tie.spec (λ c κs. search needs) (λ c κs. search needs) (λ c κs. search (few, link-read, sound-follow-lowers, needs)) (λ c. search needs)
+    (tie.spec (λ c κs. search needs) (λ c κs. search needs)
+    (λ c κs. search (few, link-read, sound-follow-lowers, needs))
+    (λ c. search needs)
     (λ c. search (follow-link-is, needs)))

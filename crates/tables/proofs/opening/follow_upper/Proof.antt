@@ -7,4 +7,5 @@ use Rattle.tables.proofs.opening.follow_upper.Tie as tie
 pub follow-upper-spec : {M : Type 1} → statement M
 follow-upper-spec =
     tie.close
-    (tie.spec (λ c. search needs) (λ c κs. search needs) (λ c κs. search needs) (λ c. search needs) (λ c. search (follow-upper-is, needs)))
+    (tie.spec (λ c. search needs) (λ c κs. search needs) (λ c κs. search needs) (λ c. search needs)
+    (λ c. search (follow-upper-is, needs)))

@@ -7,5 +7,6 @@ pub both-fair-spec : {M : Type 1} → statement M
 both-fair-spec =
     tie.close
     (tie.spec (λ c κs. search needs)
-    (λ c. search (looked-no, inl, c .before .fair .ensures .fails, not-true)) (λ c κs. search needs)
+    (λ c. search (looked-no, inl, c .before .fair .ensures .fails, not-true))
+    (λ c κs. search needs)
     (λ c. looked-also (c .before .before .fair .ensures .holds (not-false _ (c .before .if1 .left))) (c .fair2 .ensures)))

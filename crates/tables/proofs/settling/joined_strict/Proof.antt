@@ -5,4 +5,8 @@ use Rattle.tables.proofs.settling.joined_strict.Statement.{statement}
 use Rattle.tables.proofs.settling.joined_strict.Tie as tie
 
 pub joined-strict-spec : {M : Type 1} → statement M
-joined-strict-spec = tie.close (tie.spec (λ c κs. search needs) (λ c κs. search (few, sound-first)) (λ c. search needs) (λ c. cc))
+joined-strict-spec =
+    tie.close
+    (tie.spec (λ c κs. search needs)
+    (λ c κs. search (few, sound-first))
+    (λ c. search needs) (λ c. cc))

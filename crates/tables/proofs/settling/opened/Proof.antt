@@ -8,4 +8,6 @@ pub opened-spec : {M : Type 1} → statement M
 opened-spec =
     tie.close
     (tie.spec (λ c. omega (arith, square-le (few (c .before .before .pre .0))))
-    (λ c κs. search) (λ c κs. search copied-sound) (λ c. search needs) (λ c. search needs))
+    (λ c κs. search)
+    (λ c κs. search copied-sound)
+    (λ c. search needs) (λ c. search needs))

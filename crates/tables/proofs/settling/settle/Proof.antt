@@ -65,9 +65,18 @@ pub settle-spec : {M : Type 1} → statement M
 settle-spec =
     tie.close
     (tie.spec Inv-loop μ-loop
-    (λ c κs. search) (λ c κs. search first-sound) (λ c κs. search (few, first-sound)) loop-holds
+    (λ c κs. search)
+    (λ c κs. search first-sound)
+    (λ c κs. search (few, first-sound))
+    loop-holds
     (λ c κs. search (few, standing-strict, standing-open))
-    (λ c. returns c .fails refl .strict-kept .length-same) (λ c. returns c .fails refl .open-kept .length-same) returns
-    (λ c κs. search standing-strict) (λ c κs. search (few, round-stored (c .before .before)))
-    (λ c. returns-2 c .holds refl .strict-kept .length-same) (λ c. returns-2 c .holds refl .open-kept .length-same) returns-2
-    (λ c κs. search (round-stored (c .before .before .before .before .before .before), standing-open)) loop-less loop-again)
+    (λ c. returns c .fails refl .strict-kept .length-same)
+    (λ c. returns c .fails refl .open-kept .length-same)
+    returns
+    (λ c κs. search standing-strict)
+    (λ c κs. search (few, round-stored (c .before .before)))
+    (λ c. returns-2 c .holds refl .strict-kept .length-same)
+    (λ c. returns-2 c .holds refl .open-kept .length-same)
+    returns-2
+    (λ c κs. search (round-stored (c .before .before .before .before .before .before), standing-open))
+    loop-less loop-again)

@@ -7,4 +7,8 @@ use Rattle.tables.proofs.settling.strict_round.Tie as tie
 
 pub strict-round-spec : {M : Type 1} → statement M
 unfolding strictRound
-strict-round-spec = tie.close (tie.spec (λ c κs. search needs) (λ c κs. search sound-lower-round) (λ c. search needs) (λ c. cc))
+strict-round-spec =
+    tie.close
+    (tie.spec (λ c κs. search needs)
+    (λ c κs. search sound-lower-round)
+    (λ c. search needs) (λ c. cc))

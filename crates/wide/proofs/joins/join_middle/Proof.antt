@@ -4,10 +4,16 @@ use Rattle.wide.proofs.AddStart.{adding-coherent}
 use Rattle.wide.proofs.joins.join_middle.Statement.{statement}
 use Rattle.wide.proofs.joins.join_middle.Tie as tie
 
+abbrev Inv-loop : tie.InvT-loop
+Inv-loop t₀ n y x₀ t x = Turns adding n n (joinRow adding n y) x t₀ t
+
 pub join-middle-spec : {M : Type 1} → statement M
 unfolding joinMiddle
 join-middle-spec =
     tie.close
-    (tie.spec (λ t₀ n y x₀ t x. Turns adding n n (joinRow adding n y) x t₀ t) (λ t₀ n y x₀ t x. n - x)
-    (λ c. turns-none (c .pre .2)) (λ c κs. search needs) (λ c. search needs) (λ c. search needs)
-    (λ c. search (turns-more, row-lowers adding adding-coherent, needs)) (λ c. search needs) (λ c. search (turns-all, needs)))
+    (tie.spec Inv-loop (λ t₀ n y x₀ t x. n - x)
+    (λ c. turns-none (c .pre .2))
+    (λ c κs. search needs) (λ c. search needs) (λ c. search needs)
+    (λ c. search (turns-more, row-lowers adding adding-coherent, needs))
+    (λ c. search needs)
+    (λ c. search (turns-all, needs)))

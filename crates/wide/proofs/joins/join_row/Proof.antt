@@ -5,12 +5,19 @@ use Rattle.wide.proofs.AddStart.{adding-coherent}
 use Rattle.wide.proofs.joins.join_row.Statement.{statement}
 use Rattle.wide.proofs.joins.join_row.Tie as tie
 
+abbrev Inv-loop : tie.InvT-loop
+Inv-loop t₀ n y x a z₀ t z = Turns adding n n (joinCell adding n y x (cell64 (a .v))) z t₀ t
+
 pub join-row-spec : {M : Type 1} → statement M
 join-row-spec =
     tie.close
-    (tie.spec (λ t₀ n y x a z₀ t z. Turns adding n n (joinCell adding n y x (cell64 (a .v))) z t₀ t) (λ t₀ n y x a z₀ t z. n - z)
-    (λ c κs. search needs) (λ c κs. search needs) (λ c. search needs) (λ c. search (row-at-mark, mark-read, needs))
-    (λ c. turns-none (c .before .before .before .before .pre .3)) (λ c κs. search needs) (λ c κs. search (read-stored, needs))
+    (tie.spec Inv-loop (λ t₀ n y x a z₀ t z. n - z)
+    (λ c κs. search needs) (λ c κs. search needs) (λ c. search needs)
+    (λ c. search (row-at-mark, mark-read, needs))
+    (λ c. turns-none (c .before .before .before .before .pre .3))
+    (λ c κs. search needs)
+    (λ c κs. search (read-stored, needs))
     (λ c κs. search needs) (λ c. search needs) (λ c. search needs)
-    (λ c. search (turns-more, join-cell-is, cell-lowers adding adding-coherent, needs)) (λ c. search needs)
+    (λ c. search (turns-more, join-cell-is, cell-lowers adding adding-coherent, needs))
+    (λ c. search needs)
     (λ c. search (join-row-is, turns-all, needs)))

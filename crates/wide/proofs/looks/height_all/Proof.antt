@@ -3,15 +3,18 @@ use Rattle.lowering.proofs.Common.{needs, _-_, arith, adding, held-read, Summin
 use Rattle.wide.proofs.looks.height_all.Statement.{statement}
 use Rattle.wide.proofs.looks.height_all.Tie as tie
 
+abbrev Inv-loop : tie.InvT-loop
+Inv-loop t count sum₀ i₀ sum i = Summing adding count t i sum
+
 pub height-all-spec : {M : Type 1} → statement M
 unfolding adding
 height-all-spec =
     tie.close
-    (tie.spec (λ t count sum₀ i₀ sum i. Summing adding count t i sum) (λ t count sum₀ i₀ sum i. count - i)
-    (λ c. summing-none) (λ c κs. omega (arith, c .before .before .pre .1 .room, c .loop-test .taken))
+    (tie.spec Inv-loop (λ t count sum₀ i₀ sum i. count - i)
+    (λ c. summing-none)
+    (λ c κs. omega (arith, c .before .before .pre .1 .room, c .loop-test .taken))
     (λ c κs. held-read {r = adding} (c .before .before .before .pre .1) (c .before .before .loop .i) (omega arith) (c .cell-at .ensures))
-    (λ c.
-    let s = c .before .before .before .before in
-    let loop = c .before .before .before .loop in
-    omega (arith, summing-most (loop .inv) (omega arith) (c .before .cell-at .ensures) (c .height .ensures) (s .pre .1)))
-    (λ c. search needs) (λ c. search needs) (λ c. search (summing-more, needs)) (λ c. search (summing-all, needs)))
+    (λ c. let s = c .before .before .before .before in let loop = c .before .before .before .loop in omega (arith, summing-most (loop .inv) (omega arith) (c .before .cell-at .ensures) (c .height .ensures) (s .pre .1)))
+    (λ c. search needs) (λ c. search needs)
+    (λ c. search (summing-more, needs))
+    (λ c. search (summing-all, needs)))

@@ -21,5 +21,6 @@ unfolding lowerAll
 lower-all-spec =
     tie.close
     (tie.spec Inv-loop μ-loop
-    (λ c. search turns-none) (λ c κs. search needs) (λ c. search needs) (λ c. search needs) loop-again
-    (λ c. search needs) (λ c. search (turns-all, arith)))
+    (λ c. search turns-none)
+    (λ c κs. search needs) (λ c. search needs) (λ c. search needs) loop-again (λ c. search needs)
+    (λ c. search (turns-all, arith)))

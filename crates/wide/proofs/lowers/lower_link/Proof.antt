@@ -26,5 +26,9 @@ unfolding lowerLink
 lower-link-spec =
     tie.close
     (tie.spec Inv-loop μ-loop
-    (λ c κs. search needs) (λ c. search turns-none) (λ c κs. search needs) (λ c κs. search (few, link-read, arith))
-    (λ c. search needs) (λ c. search needs) loop-again (λ c. search needs) (λ c. search (turns-all, arith)))
+    (λ c κs. search needs)
+    (λ c. search turns-none)
+    (λ c κs. search needs)
+    (λ c κs. search (few, link-read, arith))
+    (λ c. search needs) (λ c. search needs) loop-again (λ c. search needs)
+    (λ c. search (turns-all, arith)))

@@ -13,7 +13,7 @@ returns-2 c =
 pub lower-pair-spec : {M : Type 1} → statement M
 lower-pair-spec =
     tie.close
-    (tie.spec (λ c. search pair-own) (λ c. search needs) (λ c. search needs) (λ c. search needs)
-    (λ c κs. search needs) (λ c. search needs)
-    (λ c κs. (search read-stored, omega (arith, weights-held), omega (arith, weights-held))) (λ c κs. search needs)
-    (λ c. search needs) returns-2)
+    (tie.spec (λ c. search pair-own) (λ c. search needs) (λ c. search needs) (λ c. search needs) (λ c κs. search needs)
+    (λ c. search needs)
+    (λ c κs. (search read-stored, omega (arith, weights-held), omega (arith, weights-held)))
+    (λ c κs. search needs) (λ c. search needs) returns-2)

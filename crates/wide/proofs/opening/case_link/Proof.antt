@@ -9,8 +9,7 @@ pub case-link-spec : {M : Type 1} → statement M
 unfolding caseLink
 case-link-spec =
     tie.close
-    (tie.spec (λ c. search needs) (λ c. search needs) (λ c κs. search (weights-held, needs)) (λ c κs. search needs) (λ c. search needs)
-    (λ c.
-    let s = c .before .before .before .before .before .before in
-    let span = span-cell {n = s .args .a .short} (omega (arith, s .pre .1 .order, s .pre .1 .most, weights-held)) (c .before .before .of .ensures) in
-    search (lowering-by, span, needs)))
+    (tie.spec (λ c. search needs) (λ c. search needs)
+    (λ c κs. search (weights-held, needs))
+    (λ c κs. search needs) (λ c. search needs)
+    (λ c. let s = c .before .before .before .before .before .before in let span = span-cell {n = s .args .a .short} (omega (arith, s .pre .1 .order, s .pre .1 .most, weights-held)) (c .before .before .of .ensures) in search (lowering-by, span, needs)))

@@ -8,5 +8,7 @@ pub first-open-spec : {M : Type 1} → statement M
 unfolding firstOpen
 first-open-spec =
     tie.close
-    (tie.spec (λ c. omega (arith, square-le (c .before .pre .0))) (λ c κs. search needs) (λ c κs. search (sound-marks, needs)) (λ c. search needs)
-    (λ c. cc))
+    (tie.spec (λ c. omega (arith, square-le (c .before .pre .0)))
+    (λ c κs. search needs)
+    (λ c κs. search (sound-marks, needs))
+    (λ c. search needs) (λ c. cc))

@@ -9,6 +9,4 @@ unfolding limitCell
 limit-cell-spec =
     tie.close
     (tie.spec (λ c. search needs) (λ c. search needs) (λ c κs. search needs) (λ c κs. search needs) (λ c. search needs)
-    (λ c.
-    let widened = c .before .before .widened in
-    search (lowering-by, weight-cell (widened .result .v) (c .before .before .before .before .before .before .before .pre .1) (widened .ensures), needs)))
+    (λ c. let widened = c .before .before .widened in search (lowering-by, weight-cell (widened .result .v) (c .before .before .before .before .before .before .before .pre .1) (widened .ensures), needs)))

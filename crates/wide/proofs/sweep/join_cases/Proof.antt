@@ -7,4 +7,6 @@ use Rattle.wide.proofs.sweep.join_cases.Tie as tie
 pub join-cases-spec : {M : Type 1} → statement M
 join-cases-spec =
     tie.close
-    (tie.spec (λ c κs. search needs) (λ c κs. search (few, sound-case)) (λ c. search needs) (λ c. cc))
+    (tie.spec (λ c κs. search needs)
+    (λ c κs. search (few, sound-case))
+    (λ c. search needs) (λ c. cc))

@@ -19,4 +19,6 @@ returns c =
 pub sweep-strict-spec : {M : Type 1} → statement M
 sweep-strict-spec =
     tie.close
-    (tie.spec (λ c κs. search few) (λ c κs. search sound-joins) upper-all-requires (λ c. search needs) returns)
+    (tie.spec (λ c κs. search few)
+    (λ c κs. search sound-joins)
+    upper-all-requires (λ c. search needs) returns)

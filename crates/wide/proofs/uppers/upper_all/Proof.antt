@@ -13,6 +13,8 @@ unfolding upperAll
 upper-all-spec =
     tie.close
     (tie.spec Inv-loop (λ file n m k t₀ x₀ t x. n - x)
-    (λ c. search turns-none) (λ c κs. search needs) (λ c. search needs) (λ c. search needs)
-    (λ c. search (turns-more, upper-point-lowers, adding-coherent, link-points, arith)) (λ c. search needs)
+    (λ c. search turns-none)
+    (λ c κs. search needs) (λ c. search needs) (λ c. search needs)
+    (λ c. search (turns-more, upper-point-lowers, adding-coherent, link-points, arith))
+    (λ c. search needs)
     (λ c. search (turns-all, arith)))

@@ -9,5 +9,6 @@ pub upper-cell-spec : {M : Type 1} → statement M
 upper-cell-spec =
     tie.close
     (tie.spec (λ c. search needs) (λ c. search needs) (λ c κs. search needs)
-    (λ c κs. (search read-stored, omega (arith, weights-held), omega (arith, weights-held))) (λ c κs. search needs)
-    (λ c. search needs) (λ c. search (upper-cell-is, c .before .before .upper .ensures)))
+    (λ c κs. (search read-stored, omega (arith, weights-held), omega (arith, weights-held)))
+    (λ c κs. search needs) (λ c. search needs)
+    (λ c. search (upper-cell-is, c .before .before .upper .ensures)))

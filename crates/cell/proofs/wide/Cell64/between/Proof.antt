@@ -16,7 +16,9 @@ returns-4 c n el em =
 pub between-spec : {M : Type 1} → statement M
 between-spec =
     tie.close
-    (tie.spec (λ c κs. search needs) (λ c n el em. search (reach-mark, is-mark)) (λ c κs. search needs)
+    (tie.spec (λ c κs. search needs)
+    (λ c n el em. search (reach-mark, is-mark))
+    (λ c κs. search needs)
     (λ c n el em. reach-above n (cell (c .before .before)) (rw em at (tested (c .before .less .ensures) (c .if2 .taken))))
     (λ c κs. search needs)
     (λ c n el em. search (reach-below n (cell (c .before .before .before .before)), rw el at (tested (c .before .less2 .ensures) (c .if3 .taken))))
