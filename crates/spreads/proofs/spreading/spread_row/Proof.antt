@@ -4,6 +4,13 @@ use Rattle.lowering.proofs.Laws.SpreadAsRead.{way-summed, spread-row-is, spread
 use Rattle.spreads.proofs.spreading.spread_row.Statement.{statement}
 use Rattle.spreads.proofs.spreading.spread_row.Tie as tie
 
+returns-2 : tie.Need-returns-2
+returns-2 c =
+    let get = c .before .before .before .before .before .get in
+    let get2 = c .before .before .get2 in
+    search
+    (spread-row-stays, get .ensures, c .before .before .before .before .add .ensures, get2 .ensures, c .before .below .ensures, c .if1 .left)
+
 pub spread-row-spec : {M : Type 1} → statement M
 spread-row-spec =
     tie.close
@@ -13,5 +20,4 @@ spread-row-spec =
     (λ c κs. search (way-summed, read-stored, needs))
     (λ c. search needs)
     (λ c. search (spread-row-is, needs))
-    (λ c. search needs)
-    (λ c. let get = c .before .before .before .before .before .get in let get2 = c .before .before .get2 in search (spread-row-stays, get .ensures, c .before .before .before .before .add .ensures, get2 .ensures, c .before .below .ensures, c .if1 .left)))
+    (λ c. search needs) returns-2)

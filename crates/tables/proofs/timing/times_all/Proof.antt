@@ -7,13 +7,20 @@ use Rattle.tables.proofs.timing.times_all.Tie as tie
 abbrev Inv-loop : tie.InvT-loop
 Inv-loop strict n times₀ x₀ times x = Writing n (TimeOf n strict) x times₀ times
 
+abbrev μ-loop : tie.MeasureT-loop
+μ-loop strict n times₀ x₀ times x = n - x
+
+loop-again : tie.Need-loop-again Inv-loop μ-loop
+loop-again c =
+    let s = c .before .before .before .before .before in
+    let loop = c .before .before .before .before .loop in
+    search (writing-more, time-is (s .pre .1) (loop .x) (omega arith) (c .before .before .get .ensures) (c .before .negated .ensures), needs)
+
 pub times-all-spec : {M : Type 1} → statement M
 times-all-spec =
     tie.close
-    (tie.spec Inv-loop (λ strict n times₀ x₀ times x. n - x)
+    (tie.spec Inv-loop μ-loop
     (λ c. writing-none) (λ c κs. search needs)
     (λ c κs. time-fits (c .before .before .before .pre .1) (c .before .before .loop .x) (omega arith) (c .get .ensures))
-    (λ c. search needs) (λ c. search needs) (λ c. search needs) (λ c. search needs)
-    (λ c. let s = c .before .before .before .before .before in let loop = c .before .before .before .before .loop in search (writing-more, time-is (s .pre .1) (loop .x) (omega arith) (c .before .before .get .ensures) (c .before .negated .ensures), needs))
-    (λ c. search needs)
+    (λ c. search needs) (λ c. search needs) (λ c. search needs) (λ c. search needs) loop-again (λ c. search needs)
     (λ c. all-timed (c .before .loop .inv) (omega arith)))
