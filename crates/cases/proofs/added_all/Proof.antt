@@ -7,7 +7,8 @@ use Rattle.cases.proofs.added_all.Statement.{statement}
 use Rattle.cases.proofs.added_all.Tie as tie
 
 abbrev Inv-loop : tie.InvT-loop
-Inv-loop file limits strict₀ open₀ at₀ strict «open» at = (at ≤ length limits) × (length strict ≡ length strict₀) × (length «open» ≡ length open₀)
+Inv-loop file limits strict₀ open₀ at₀ strict «open» at =
+    (at ≤ length limits) × (length strict ≡ length strict₀) × (length «open» ≡ length open₀)
 
 pub added-all-spec : {M : Type 1} → statement M
 added-all-spec =

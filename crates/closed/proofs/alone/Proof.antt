@@ -13,7 +13,12 @@ returns-3 c =
     let two = c .before in
     let one = two .before .before in
     decides-all (c .all-joined .ensures)
-    (λ j. record { within = given-by (one .before .all-within .ensures) (one .if1 .left); diagonal = given-by (two .before .diagonal .ensures) (two .if2 .left); joined = j })
+    (λ j.
+    record {
+      within = given-by (one .before .all-within .ensures) (one .if1 .left);
+      diagonal = given-by (two .before .diagonal .ensures) (two .if2 .left);
+      joined = j;
+    })
     (λ a. a .joined)
 
 pub alone-spec : {M : Type 1} → statement M

@@ -22,7 +22,8 @@ returns-4 c =
     let one = two .before .before in
     let ready = one .before .before .before .pre .0 in
     decides-all (c .open-held .ensures)
-    (closed-by ready (given-by (one .before .alone .ensures) (one .if1 .left)) (given-by (two .before .alone2 .ensures) (two .if2 .left)) (given-by (three .before .strict-held .ensures) (three .if3 .left)))
+    (closed-by ready (given-by (one .before .alone .ensures) (one .if1 .left)) (given-by (two .before .alone2 .ensures) (two .if2 .left))
+    (given-by (three .before .strict-held .ensures) (three .if3 .left)))
     (open-held ready)
 
 pub closed-spec : {M : Type 1} → statement M

@@ -11,7 +11,14 @@ returns-5 c =
     let two = three .before .before in
     let one = two .before .before in
     decides-all (c .all-uppered .ensures)
-    (λ u. record { limits = given-by (one .before .limits-held .ensures) (one .if1 .left); starts = given-by (two .before .starts-held .ensures) (two .if2 .left); links = given-by (three .before .links-held .ensures) (three .if3 .left); lower = given-by (four .before .all-lowered .ensures) (four .if4 .left); upper = u })
+    (λ u.
+    record {
+      limits = given-by (one .before .limits-held .ensures) (one .if1 .left);
+      starts = given-by (two .before .starts-held .ensures) (two .if2 .left);
+      links = given-by (three .before .links-held .ensures) (three .if3 .left);
+      lower = given-by (four .before .all-lowered .ensures) (four .if4 .left);
+      upper = u;
+    })
     (λ h. h .upper)
 
 pub strict-held-spec : {M : Type 1} → statement M

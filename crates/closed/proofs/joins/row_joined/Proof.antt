@@ -9,7 +9,8 @@ use Rattle.closed.proofs.joins.row_joined.Statement.{statement}
 use Rattle.closed.proofs.joins.row_joined.Tie as tie
 
 abbrev Inv-loop : tie.InvT-loop
-Inv-loop t n y x a held₀ z₀ held z = Tried n (λ z. tableOf version1 n t x z ≤ᶜ (tableOf version1 n t x y +ᶜ tableOf version1 n t y z)) z held
+Inv-loop t n y x a held₀ z₀ held z =
+    Tried n (λ z. tableOf version1 n t x z ≤ᶜ (tableOf version1 n t x y +ᶜ tableOf version1 n t y z)) z held
 
 abbrev μ-loop : tie.MeasureT-loop
 μ-loop t n y x a held₀ z₀ held z = n - z
@@ -20,7 +21,9 @@ loop-again c =
     let loop = add .before .before .before .loop in
     let get = add .before .before .before .before .before .before .get in
     let a = add .before .before .before .before .before .before .before .args in
-    let test = decides-sum (a .n) (a .y) (a .x) (loop .z) (a .t .now) _ _ (add .add .result .v) (get .ensures) (add .before .get2 .ensures) (add .add .ensures) (c .before .at-most .ensures) in
+    let test =
+    decides-sum (a .n) (a .y) (a .x) (loop .z) (a .t .now) _ _ (add .add .result .v) (get .ensures) (add .before .get2 .ensures) (add .add .ensures)
+    (c .before .at-most .ensures) in
     ⊎-elim (λ q. rw (q .1) (tried-failed (loop .inv) (omega arith) test (q .0 .taken)))
     (λ q. rw (q .1) (tried-more (loop .inv) (omega arith) test (q .0 .left))) (c .if2 .came)
 

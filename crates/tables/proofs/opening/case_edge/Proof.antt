@@ -12,7 +12,6 @@ returns c =
     (edge-by, span-cell {n = s .args .a .short} (omega (arith, s .pre .1 .order, s .pre .1 .most)) (c .before .before .of .ensures), needs)
 
 pub case-edge-spec : {M : Type 1} → statement M
-unfolding caseEdge
 case-edge-spec =
     tie.close
     (tie.spec (λ c. search needs) (λ c. search needs) (λ c κs. search needs) (λ c κs. search needs) (λ c. search needs)

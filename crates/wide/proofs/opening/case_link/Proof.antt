@@ -13,7 +13,6 @@ returns c =
     search (lowering-by, span, needs)
 
 pub case-link-spec : {M : Type 1} → statement M
-unfolding caseLink
 case-link-spec =
     tie.close
     (tie.spec (λ c. search needs) (λ c. search needs)

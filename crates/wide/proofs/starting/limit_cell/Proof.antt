@@ -12,7 +12,6 @@ returns c =
     (lowering-by, weight-cell (widened .result .v) (c .before .before .before .before .before .before .before .pre .1) (widened .ensures), needs)
 
 pub limit-cell-spec : {M : Type 1} → statement M
-unfolding limitCell
 limit-cell-spec =
     tie.close
     (tie.spec (λ c. search needs) (λ c. search needs) (λ c κs. search needs) (λ c κs. search needs) (λ c. search needs)

@@ -16,7 +16,6 @@ loop-again c =
     search (writing-more, e, needs)
 
 pub mark-all-spec : {M : Type 1} → statement M
-unfolding adding
 mark-all-spec =
     tie.close
     (tie.spec Inv-loop μ-loop
