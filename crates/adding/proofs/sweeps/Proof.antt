@@ -4,6 +4,12 @@ use Rattle.adding.proofs.AddAnswers.{start-within, started, refused, ou
 use Rattle.adding.proofs.sweeps.Statement.{statement}
 use Rattle.adding.proofs.sweeps.Tie as tie
 
+returns : tie.Need-returns
+returns c =
+    let settle = c .before .before .before .before .before in
+    let s = settle .before .before .before .before .before .before .before in
+    refused (s .pre .0) (s .pre .1) (search) (search) (settle .settle .ensures) (search) (not-true _ (c .before .before .before .if1 .taken)) (c .before .clear .ensures)
+
 returns-2 : tie.Need-returns-2
 returns-2 c =
     let look = c .before .before .before .before in
@@ -27,8 +33,7 @@ sweeps-spec =
     tie.close
     (tie.spec (λ c. search needs) (λ c. search needs) (λ c. search needs)
     (λ c κs. search (few, start-within))
-    (λ c κs. search started) (λ c κs. search needs) (λ c. search needs) (λ c. search needs)
-    (λ c. search (refused, not-true))
+    (λ c κs. search started) (λ c κs. search needs) (λ c. search needs) (λ c. search needs) returns
     (λ c κs. search needs) (λ c κs. search needs) (λ c. search needs) (λ c. search needs) returns-2
     (λ c κs. search (few, arith, c .before .before .before .before .all-in-reach .ensures .holds, not-false))
     (λ c. search needs) (λ c. search needs) (λ c. search needs) returns-3)

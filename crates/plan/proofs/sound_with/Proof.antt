@@ -12,11 +12,15 @@ fit : (c : tie.After-limit-fits)
     c .limit-fits .result ≡ limitFits version1 (c .before .head .result .points) (record { from = a .x; to = a .y; weight = a .w })
 fit c = rw (toZ-ofZ w32 _ (c .before .before .before .before .before .before .fits .w)) at (c .limit-fits .ensures)
 
+returns-2 : tie.Need-returns-2
+returns-2 c =
+    let head = c .before .before in
+    let ok = head .before .before in
+    add-own _ (ok .accepted .ensures) (ok .before .front .ensures) (head .before .if1 .left) (head .head .ensures) _ (fit (c .before)) (c .if2 .taken)
+
 pub sound-with-spec : {M : Type 1} → statement M
 sound-with-spec =
     tie.close
     (tie.spec (λ c κs. search needs) (λ c κs. search needs) (λ c. search add-stop) (λ c κs. search needs)
-    (λ c κs. search needs)
-    (λ c. search (add-own, fit (c .before)))
-    (λ c κs. search needs)
+    (λ c κs. search needs) returns-2 (λ c κs. search needs)
     (λ c. search (add-next, fit (c .before .before))))

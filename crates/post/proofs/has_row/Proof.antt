@@ -9,4 +9,4 @@ has-row-spec =
     tie.close
     (tie.spec (λ c. search too-many)
     (λ c. omega (arith, square-le (c .if1 .left)))
-    (λ c. search else))
+    (λ c. else _ _ _ _ (c .if1 .left)))

@@ -32,7 +32,7 @@ row-joined-spec =
     tie.close
     (tie.spec Inv-loop μ-loop
     (λ c κs. search needs) (λ c κs. search needs)
-    (λ c. search (row-at-mark, is-mark, needs))
+    (λ c. row-at-mark _ _ _ _ _ (c .before .before .get .ensures) (is-mark (c .before .is-mark .ensures) (c .if1 .taken)))
     (λ c. none-tried) (λ c κs. search needs)
     (λ c κs. search (read-stored, needs))
     (λ c κs. search needs) (λ c. search needs) (λ c. search needs) loop-again

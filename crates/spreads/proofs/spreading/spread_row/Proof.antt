@@ -1,8 +1,17 @@
 -- `spreading::spread_row` meets its contract: a row that the edge shortens is taken by the way over it, and any other stays. Assumes nothing.
-use Rattle.lowering.proofs.Common.{needs, read-stored}
+use Rattle.lowering.proofs.Common.{needs, read-stored, version1}
 use Rattle.lowering.proofs.Laws.SpreadAsRead.{way-summed, spread-row-is, spread-row-stays}
 use Rattle.spreads.proofs.spreading.spread_row.Statement.{statement}
 use Rattle.spreads.proofs.spreading.spread_row.Tie as tie
+
+returns : tie.Need-returns
+returns c =
+    let add = c .before .before .before .before .before .before .before in
+    let test = c .before .before .before in
+    let old = c .before .before .before .before .before .get2 in
+    spread-row-is version1 _ _ _ _ _ _ (add .before .get .result .v) (add .add .result .v) (old .result .v) (add .before .get .ensures) (add .add .ensures)
+    (old .ensures) (test .before .below .ensures)
+    (test .if1 .taken) (c .before .row-by .ensures)
 
 returns-2 : tie.Need-returns-2
 returns-2 c =
@@ -18,6 +27,4 @@ spread-row-spec =
     (λ c κs. search (read-stored, needs))
     (λ c κs. search needs) (λ c κs. search needs)
     (λ c κs. search (way-summed, read-stored, needs))
-    (λ c. search needs)
-    (λ c. search (spread-row-is, needs))
-    (λ c. search needs) returns-2)
+    (λ c. search needs) returns (λ c. search needs) returns-2)

@@ -1,5 +1,5 @@
 -- `timing::times_all` meets its contract: a turn for each point. Assumes nothing.
-use Rattle.lowering.proofs.Common.{needs, _-_, arith, Writing, writing-none, writing-more}
+use Rattle.lowering.proofs.Common.{needs, _-_, arith, Writing, writing-none, writing-more, refl}
 use Rattle.tables.proofs.TimesWritten.{TimeOf, time-fits, time-is, all-timed}
 use Rattle.tables.proofs.timing.times_all.Statement.{statement}
 use Rattle.tables.proofs.timing.times_all.Tie as tie
@@ -14,7 +14,8 @@ loop-again : tie.Need-loop-again Inv-loop μ-loop
 loop-again c =
     let s = c .before .before .before .before .before in
     let loop = c .before .before .before .before .loop in
-    search (writing-more, time-is (s .pre .1) (loop .x) (omega arith) (c .before .before .get .ensures) (c .before .negated .ensures), needs)
+    writing-more (loop .inv) _ (omega arith) (s .pre .2)
+    (time-is (s .pre .1) (loop .x) (omega arith) (c .before .before .get .ensures) (c .before .negated .ensures)) refl
 
 pub times-all-spec : {M : Type 1} → statement M
 times-all-spec =
