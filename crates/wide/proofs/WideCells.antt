@@ -1,5 +1,5 @@
 -- The numbers of edges as 64-bit cells, and that what each part of a sweep leaves is again a table that a sweep stores, at Add's ranges. The laws are those of
--- `tables`, at these ranges. Assumes nothing.
+-- `lowering`, at these ranges. Assumes nothing.
 use mathlib.Core.Path.{_≡_, _∙_}
 use mathlib.Core.List.{List}
 use Prim.Native.Nat.{ℕ, _*_, _≤_}
