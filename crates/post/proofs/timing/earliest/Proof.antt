@@ -11,6 +11,11 @@ enough : (c : tie.After-head)
     → let a = c .before .before .before .before .before .args in Enough (a .file .now) (length (a .strict .now)) (length (a .«open» .now))
 enough c = search (lent-enough, is-accepted)
 
+returns-3 : tie.Need-returns-3
+returns-3 c =
+    let h = c .before .before .before in
+    times-links _ _ (h .head .ensures) _ _ _ (enough h) (c .before .if2 .left) (c .if3 .taken)
+
 timed-requires : tie.Need-timed-requires
 timed-requires c κs =
     search (ready-no-links, strict-enough, open-enough, enough (c .before .before .before .before .before .before))
@@ -22,5 +27,4 @@ earliest-spec =
     (λ c. search (lent-timed, not-accepted))
     (λ c κs. search needs) (λ c. search needs)
     (λ c. search (times-short, enough (c .before .before)))
-    (λ c. search (times-links, enough (c .before .before .before)))
-    timed-requires (λ c. search needs) (λ c. search needs) (λ c. search needs) (λ c. search needs))
+    returns-3 timed-requires (λ c. search needs) (λ c. search needs) (λ c. search needs) (λ c. search needs))
