@@ -4,6 +4,9 @@ use Rattle.lowering.proofs.Laws.LinksAsRead.{lower-edge-own, lower-edge-is}
 use Rattle.spreads.proofs.lowers.lower_edge.Statement.{statement}
 use Rattle.spreads.proofs.lowers.lower_edge.Tie as tie
 
+returns : tie.Need-returns
+returns c = lower-edge-own version1 _ _ _ _ (c .if1 .taken)
+
 returns-2 : tie.Need-returns-2
 returns-2 c =
     let s = c .before .before .before .before .before .before .before .before .before .before .before .before .before in
@@ -16,7 +19,7 @@ returns-2 c =
 pub lower-edge-spec : {M : Type 1} → statement M
 lower-edge-spec =
     tie.close
-    (tie.spec (λ c. lower-edge-own version1 _ _ _ _ (c .if1 .taken))
-    (λ c. search needs) (λ c. search needs) (λ c. search needs) (λ c κs. search needs) (λ c. search needs)
+    (tie.spec returns (λ c. search needs) (λ c. search needs) (λ c. search needs) (λ c κs. search needs)
+    (λ c. search needs)
     (λ c κs. search (read-stored, needs))
     (λ c κs. search needs) (λ c. search needs) returns-2)
