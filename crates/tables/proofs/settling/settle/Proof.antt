@@ -35,7 +35,10 @@ returns c = search (looked-no, standing-unfair, here (c .before .before .before 
 -- after a round the strict table is one that a sweep stores
 round-stored : (c : tie.After-strict-round Inv-loop μ-loop)
     → Sound version1 (call (c .before .before .before .before .before .before) .args .n) (c .strict-round .last .1 .1 .1 .1 .0)
-round-stored c = search (round-sound, standing-strict)
+round-stored c =
+    let turn = c .before .before .before .before .before .before in
+    let ready = call turn .pre .0 in
+    round-sound ready _ _ (standing-strict ready (turn .loop .inv .0)) (c .strict-round .ensures)
 
 returns-2 : tie.Need-returns-2 Inv-loop μ-loop
 returns-2 c =
