@@ -36,6 +36,14 @@ then-done a b e = go (eqb (codeOf a) 0) refl
 pub done-then : (a b : Answer) → a ≡ Done → b ≡ Done → (a then b) ≡ Done
 done-then a b p q = rw p q
 
+-- three answers one after the other, in whichever brackets
+pub then-assoc : (a b c : Answer) → ((a then b) then c) ≡ (a then b then c)
+then-assoc a b c = go (eqb (codeOf a) 0) refl
+  where
+    go : (t : Bool) → eqb (codeOf a) 0 ≡ t → ((a then b) then c) ≡ (a then b then c)
+    go true q = simp q
+    go false q = simp q
+
 -- a refusal that a test guards does not come where the test holds, and only there
 pub unless-done : (t : Bool) (a : Answer) → eqb (codeOf a) 0 ≡ false → unless t a ≡ Done → t ≡ true
 unless-done true a r e = refl

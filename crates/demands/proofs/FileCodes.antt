@@ -9,12 +9,12 @@ use lib.Dec.{leb, eqb}
 use lib.ListN.{length}
 use Rattle.rules.specs.declared.Answer.{Answer}
 use Rattle.rules.specs.declared.Answer.the-variants.{Done, FewBytes, BadVersion, BadPoints, BadCounts, BadLayout, BadLimit, BadLink, RepeatedLink, ShortRoom, HasLinks, NotControllable, NotClosed}
-use Rattle.rules.specs.Plan.{Limit, Link, Ranges, version1}
+use Rattle.rules.specs.Plan.{Limit, Link, Plan, Ranges, version1}
 use Rattle.rules.specs.Answers.{codeOf}
 use Rattle.answers.specs.Order.{_then_, unless}
 use Rattle.plan.specs.declared.Header.{Header}
 use Rattle.plan.specs.Layout.{headOf, planOf}
-use Rattle.plan.specs.File.{pointsFit, countsFit, laidOut, headAnswer, limitFits, linkFits, fresh, limitPlace, linkPlace, limitAnswer, limitsAnswer, linkAnswer, linksAnswer, frontAnswer, fileAnswer, addAnswer}
+use Rattle.plan.specs.File.{pointsFit, countsFit, laidOut, formAnswer, countsAnswer, limitFits, linkFits, fresh, limitPlace, linkPlace, limitAnswer, limitsAnswer, linkAnswer, linksAnswer, frontAnswer, backAnswer, planAnswer, fileFront, fileAnswer, addAnswer}
 use Rattle.demands.specs.Demand1.{PlaceNamed}
 
 pub place-named : (a : Answer) → PlaceNamed a
@@ -47,18 +47,18 @@ unless-code : (t : Bool) (a : Answer) → FileCode a → FileCode (unless t a)
 unless-code true a h = omega arith
 unless-code false a h = h
 
-head-code : (size : ℕ) (h : Header) → FileCode (headAnswer size h)
-unfolding headAnswer
-head-code size h =
-    let two = unless (eqb (h .version) 1) BadVersion in
-    let three = unless (pointsFit version1 (h .points)) BadPoints in
-    let four = unless (countsFit version1 (h .limits) (h .links)) BadCounts in
-    let five = unless (laidOut size h) BadLayout in
-    then-code (unless (leb 24 size) FewBytes) (two then three then four then five) (unless-code (leb 24 size) FewBytes (omega arith))
-    (then-code two (three then four then five) (unless-code (eqb (h .version) 1) BadVersion (omega arith))
-    (then-code three (four then five) (unless-code (pointsFit version1 (h .points)) BadPoints (omega arith))
-    (then-code four five (unless-code (countsFit version1 (h .limits) (h .links)) BadCounts (omega arith))
-    (unless-code (laidOut size h) BadLayout (omega arith)))))
+form-code : (size : ℕ) (h : Header) → FileCode (formAnswer size h)
+form-code size h =
+    then-code (unless (leb 24 size) FewBytes) (unless (eqb (h .version) 1) BadVersion) (unless-code (leb 24 size) FewBytes (omega arith))
+    (unless-code (eqb (h .version) 1) BadVersion (omega arith))
+
+counts-code : (r : Ranges) (n m k : ℕ) (laid : Bool) → FileCode (countsAnswer r n m k laid)
+unfolding countsAnswer
+counts-code r n m k laid =
+    let four = unless (countsFit r m k) BadCounts in
+    let five = unless laid BadLayout in
+    then-code (unless (pointsFit r n) BadPoints) (four then five) (unless-code (pointsFit r n) BadPoints (omega arith))
+    (then-code four five (unless-code (countsFit r m k) BadCounts (omega arith)) (unless-code laid BadLayout (omega arith)))
 
 limit-code : (r : Ranges) (n i : ℕ) (m : Limit) → FileCode (limitAnswer r n i m)
 limit-code r n i m = unless-code (limitFits r n m) (BadLimit (limitPlace i)) (omega arith)
@@ -76,22 +76,32 @@ links-code r n i before (k ∷ ks) =
     (unless-code (fresh (k .con) before) (RepeatedLink (linkPlace i)) (omega arith)))
     (links-code r n (suc i) (k ∷ before) ks)
 
-front-code : (s : List ℕ) → FileCode (frontAnswer s)
+front-code : (r : Ranges) (laid : Bool) (p : Plan) → FileCode (frontAnswer r laid p)
 unfolding frontAnswer
-front-code s =
-    then-code (headAnswer (length s) (headOf s)) (limitsAnswer version1 (planOf s .points) 0 (planOf s .limits)) (head-code (length s) (headOf s))
-    (limits-code version1 (planOf s .points) 0 (planOf s .limits))
+front-code r laid p =
+    then-code (countsAnswer r (p .points) (length (p .limits)) (length (p .links)) laid) (limitsAnswer r (p .points) 0 (p .limits))
+    (counts-code r (p .points) (length (p .limits)) (length (p .links)) laid) (limits-code r (p .points) 0 (p .limits))
+
+back-code : (r : Ranges) (p : Plan) → FileCode (backAnswer r p)
+back-code r p = links-code r (p .points) 0 [] (p .links)
+
+-- codes 3 to 8 of a plan
+pub plan-code : (r : Ranges) (laid : Bool) (p : Plan) → FileCode (planAnswer r laid p)
+unfolding planAnswer
+plan-code r laid p = then-code (frontAnswer r laid p) (backAnswer r p) (front-code r laid p) (back-code r p)
 
 pub file-code : (s : List ℕ) → FileCode (fileAnswer s)
 unfolding fileAnswer
 file-code s =
-    then-code (frontAnswer s) (linksAnswer version1 (planOf s .points) 0 [] (planOf s .links)) (front-code s)
-    (links-code version1 (planOf s .points) 0 [] (planOf s .links))
+    let laid = laidOut (length s) (headOf s) in
+    then-code (formAnswer (length s) (headOf s)) (planAnswer version1 laid (planOf s)) (form-code (length s) (headOf s)) (plan-code version1 laid (planOf s))
 
 pub add-code : (s : List ℕ) (m : Limit) → FileCode (addAnswer s m)
-unfolding addAnswer
+unfolding addAnswer fileFront
 add-code s m =
+    let laid = laidOut (length s) (headOf s) in
     let own = limitAnswer version1 (planOf s .points) (headOf s .limits) m in
-    let links = linksAnswer version1 (planOf s .points) 0 [] (planOf s .links) in
-    then-code (frontAnswer s) (own then links) (front-code s)
-    (then-code own links (limit-code version1 (planOf s .points) (headOf s .limits) m) (links-code version1 (planOf s .points) 0 [] (planOf s .links)))
+    let links = backAnswer version1 (planOf s) in
+    then-code (fileFront s) (own then links)
+    (then-code (formAnswer (length s) (headOf s)) (frontAnswer version1 laid (planOf s)) (form-code (length s) (headOf s)) (front-code version1 laid (planOf s)))
+    (then-code own links (limit-code version1 (planOf s .points) (headOf s .limits) m) (back-code version1 (planOf s)))

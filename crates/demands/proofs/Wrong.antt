@@ -24,7 +24,7 @@ use Rattle.rules.proofs.Times.{no-link, met-controllable}
 use Rattle.rules.proofs.Walks.{single}
 use Rattle.fields.specs.Bytes.{wordAt, signedAt, signedOf}
 use Rattle.plan.specs.Layout.{headOf, limitAt, planOf}
-use Rattle.plan.specs.File.{headAnswer, limitFits, frontAnswer, fileAnswer}
+use Rattle.plan.specs.File.{countsAnswer, limitFits, frontAnswer, planAnswer, fileAnswer}
 use Rattle.demands.specs.Programs.{AJudge, ACheck, AnAdd}
 use Rattle.demands.specs.Demand2.{Demand2}
 use Rattle.demands.specs.Demand3.{Desk, judged, taken, OneFile, Demand3}
@@ -60,15 +60,15 @@ record Small (s : List ℕ) (ms : List Limit) : Type 0 where
   links : planOf s .links ≡ []
 
 small-none : Small none []
-unfolding none field fileAnswer frontAnswer headAnswer planOf headOf wordAt version1
+unfolding none field fileAnswer planAnswer frontAnswer countsAnswer planOf headOf wordAt version1
 small-none = record { sound = refl; points = refl; limits = refl; links = refl }
 
 small-one : Small one (first ∷ [])
-unfolding one first field fileAnswer frontAnswer headAnswer limitFits planOf headOf limitAt wordAt signedAt signedOf version1
+unfolding one first field fileAnswer planAnswer frontAnswer countsAnswer limitFits planOf headOf limitAt wordAt signedAt signedOf version1
 small-one = record { sound = refl; points = refl; limits = refl; links = refl }
 
 small-both : Small both (first ∷ second ∷ [])
-unfolding both first second field fileAnswer frontAnswer headAnswer limitFits planOf headOf limitAt wordAt signedAt signedOf version1
+unfolding both first second field fileAnswer planAnswer frontAnswer countsAnswer limitFits planOf headOf limitAt wordAt signedAt signedOf version1
 small-both = record { sound = refl; points = refl; limits = refl; links = refl }
 
 -- the limits that are tried

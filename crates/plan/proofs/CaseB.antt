@@ -1,14 +1,14 @@
 -- Case b of the paper, whose bytes it gives: "The file's fields in order: 1, 2, 1, 0, 24, 36; 0, 1, 10; 36 bytes." The reader takes
--- it for the plan that the paper says. Assumes nothing.
+-- it for the plan that the paper says, and they are that plan's bytes. Assumes nothing.
 use mathlib.Core.Path.{_≡_, refl}
-use mathlib.Core.List.{List, [], _∷_, _++_}
+use mathlib.Core.List.{List, [], _∷_, _++_, flatMap}
 use Prim.Native.Nat.{ℕ}
 use lib.IntN.{pos}
 use Rattle.rules.specs.Plan.{Plan, version1}
 use Rattle.rules.specs.declared.Answer.the-variants.{Done}
-use Rattle.fields.specs.Bytes.{wordAt, signedAt, signedOf}
-use Rattle.plan.specs.Layout.{headOf, limitAt, linkAt, planOf}
-use Rattle.plan.specs.File.{headAnswer, limitFits, linkFits, frontAnswer, fileAnswer}
+use Rattle.fields.specs.Bytes.{wordAt, signedAt, signedOf, wordBytes, bitsOf}
+use Rattle.plan.specs.Layout.{headOf, limitAt, linkAt, planOf, planFields, planBytes}
+use Rattle.plan.specs.File.{countsAnswer, limitFits, linkFits, frontAnswer, planAnswer, fileAnswer}
 
 -- a field of a small number
 field : ℕ → List ℕ
@@ -25,5 +25,9 @@ unfolding case-b plan-b field planOf headOf limitAt linkAt wordAt signedAt signe
 b-is-read = refl
 
 b-is-sound : fileAnswer case-b ≡ Done
-unfolding case-b field planOf headOf limitAt linkAt wordAt signedAt signedOf headAnswer limitFits linkFits frontAnswer fileAnswer version1
+unfolding case-b field planOf headOf limitAt linkAt wordAt signedAt signedOf countsAnswer limitFits linkFits frontAnswer planAnswer fileAnswer version1
 b-is-sound = refl
+
+b-is-written : planBytes plan-b ≡ case-b
+unfolding case-b plan-b field planBytes planFields flatMap wordBytes bitsOf
+b-is-written = refl

@@ -1,63 +1,78 @@
 -- The order of the answers: one after another, the first refusal stands. The laws take what the calls ensure as it comes: h is
 -- the header that was read, a and b are answers, t is what was said of whether a is no refusal. Assumes nothing.
-use mathlib.Core.Path.{_≡_}
+use mathlib.Core.Path.{_≡_, sym, _∙_}
 use mathlib.Core.Bool.{Bool, true, false, not}
 use mathlib.Core.List.{List, []}
-use Prim.Native.Nat.{ℕ, _≤_}
+use Prim.Native.Nat.{ℕ, _≤_, _<_}
 use lib.Dec.{eqb}
 use lib.ListN.{length}
-use borrow.Author.Tests.{le-leb, eq-eqb}
-use Rattle.rules.specs.Plan.{Limit, version1}
+use borrow.Author.Tests.{le-leb, lt-leb, eq-eqb, ne-eqb, not-true, not-false}
+use Rattle.rules.specs.Plan.{Limit, Ranges, version1}
 use Rattle.rules.specs.Answers.{codeOf}
 use Rattle.rules.specs.declared.Answer.{Answer}
-use Rattle.rules.specs.declared.Answer.the-variants.{Done, BadPoints, BadCounts, BadLayout, BadLimit}
+use Rattle.rules.specs.declared.Answer.the-variants.{Done, FewBytes, BadVersion, BadPoints, BadCounts, BadLayout, BadLimit}
+use Rattle.answers.specs.Order.{_then_}
 use Rattle.plan.specs.declared.Header.{Header}
 use Rattle.plan.specs.Layout.{headOf, limitAt, linkAt, records, planOf}
-use Rattle.plan.specs.File.{pointsFit, countsFit, laidOut, headAnswer, limitFits, limitPlace, limitsAnswer, linksAnswer, frontAnswer, fileAnswer, addAnswer}
+use Rattle.plan.specs.File.{pointsFit, countsFit, laidOut, formAnswer, countsAnswer, limitFits, limitPlace, limitsAnswer, linksAnswer, fileFront, fileAnswer, addAnswer}
+use Rattle.plan.proofs.FileParts.{headAnswer, front-parts, file-parts}
 use Rattle.plan.proofs.TestsMade.{failed, passed}
 
--- ---- the header's own tests, past those of its size and its version
+-- ---- n, m and k
 
-module _ (size : ℕ) (h : Header) (room : 24 ≤ size) (version : h .version ≡ 1) {p : Bool} (e : p ≡ pointsFit version1 (h .points)) where
-  pub bad-points : not p ≡ true → BadPoints ≡ headAnswer size h
-  unfolding headAnswer
-  bad-points u = simp (le-leb 24 size room, eq-eqb (h .version) 1 version, failed e u)
+module _ (r : Ranges) (n m k : ℕ) {p : Bool} (e : p ≡ pointsFit r n) (laid : Bool) where
+  pub bad-points : not p ≡ true → BadPoints ≡ countsAnswer r n m k laid
+  unfolding countsAnswer
+  bad-points u = simp (failed e u)
 
-  module _ (u : not p ≡ false) {c : Bool} (f : c ≡ countsFit version1 (h .limits) (h .links)) where
-    pub bad-counts : not c ≡ true → BadCounts ≡ headAnswer size h
-    unfolding headAnswer
-    bad-counts v = simp (le-leb 24 size room, eq-eqb (h .version) 1 version, passed e u, failed f v)
+  module _ (u : not p ≡ false) {c : Bool} (f : c ≡ countsFit r m k) where
+    pub bad-counts : not c ≡ true → BadCounts ≡ countsAnswer r n m k laid
+    unfolding countsAnswer
+    bad-counts v = simp (passed e u, failed f v)
 
-    module _ (v : not c ≡ false) {l : Bool} (g : l ≡ laidOut size h) where
-      pub bad-layout : not l ≡ true → BadLayout ≡ headAnswer size h
-      unfolding headAnswer
-      bad-layout w = simp (le-leb 24 size room, eq-eqb (h .version) 1 version, passed e u, passed f v, failed g w)
+    pub bad-layout : not c ≡ false → not laid ≡ true → BadLayout ≡ countsAnswer r n m k laid
+    unfolding countsAnswer
+    bad-layout v w = simp (passed e u, passed f v, not-true laid w)
 
-      pub head-done : not l ≡ false → Done ≡ headAnswer size h
-      unfolding headAnswer
-      head-done w = simp (le-leb 24 size room, eq-eqb (h .version) 1 version, passed e u, passed f v, passed g w)
+    pub counts-done : not c ≡ false → not laid ≡ false → Done ≡ countsAnswer r n m k laid
+    unfolding countsAnswer
+    counts-done v w = simp (passed e u, passed f v, not-false laid w)
+
+-- ---- the file's size and version, then those
+
+module _ (size : ℕ) (h : Header) where
+  pub few-bytes : size < 24 → FewBytes ≡ headAnswer size h
+  few-bytes l = simp (lt-leb 24 size l)
+
+  module _ (room : 24 ≤ size) where
+    pub bad-version : (h .version ≡ 1 → ⊥) → BadVersion ≡ headAnswer size h
+    bad-version d = simp (le-leb 24 size room, ne-eqb (h .version) 1 d)
+
+    pub head-next : h .version ≡ 1
+        → {l : Bool} → l ≡ laidOut size h
+        → {b : Answer} → b ≡ countsAnswer version1 (h .points) (h .limits) (h .links) l
+        → b ≡ headAnswer size h
+    head-next v e q = rw (le-leb 24 size room, eq-eqb (h .version) 1 v) (q ∙ rw e)
 
 module _ (s : List ℕ) {a : Answer} {t : Bool} (e : t ≡ eqb (codeOf a) 0) where
   -- ---- the header, then the limits
 
   module _ {h : Header} (q : h ≡ headOf s) (p : a ≡ headAnswer (length s) h) where
-    pub front-stop : not t ≡ true → a ≡ frontAnswer s
-    unfolding frontAnswer planOf
-    front-stop u = rw (← q, ← p, failed e u)
+    pub front-stop : not t ≡ true → a ≡ fileFront s
+    front-stop u = rw (front-parts s, ← q, ← p, failed e u)
 
     pub front-next : not t ≡ false
         → {b : Answer}
         → b ≡ limitsAnswer version1 (h .points) 0 (records (limitAt s) 0 (h .limits))
-        → b ≡ frontAnswer s
-    unfolding frontAnswer planOf
-    front-next u r = rw (← q, ← p, passed e u) r
+        → b ≡ fileFront s
+    unfolding planOf
+    front-next u r = rw (front-parts s, ← q, ← p, passed e u) r
 
   -- ---- those, then the links
 
-  module _ (p : a ≡ frontAnswer s) where
+  module _ (p : a ≡ fileFront s) where
     pub file-stop : not t ≡ true → a ≡ fileAnswer s
-    unfolding fileAnswer
-    file-stop u = rw (← p, failed e u)
+    file-stop u = rw (file-parts s, ← p, failed e u)
 
     pub add-stop : (added : Limit) → not t ≡ true → a ≡ addAnswer s added
     unfolding addAnswer
@@ -67,8 +82,8 @@ module _ (s : List ℕ) {a : Answer} {t : Bool} (e : t ≡ eqb (codeOf a) 0) whe
       pub file-next : {b : Answer}
           → b ≡ linksAnswer version1 (h .points) 0 [] (records (linkAt s (h .limits)) 0 (h .links))
           → b ≡ fileAnswer s
-      unfolding fileAnswer planOf
-      file-next r = rw (← p, passed e u, ← q) r
+      unfolding planOf
+      file-next r = rw (file-parts s, ← p, passed e u, ← q) r
 
       -- ---- Add's limit between them: y is what the test said of it
       module _ (added : Limit) {y : Bool} (f : y ≡ limitFits version1 (h .points) added) where

@@ -1,3 +1,4 @@
+pub mod FileParts
 pub mod FirstRefusal
 pub mod RecordTurns
 pub mod Records

@@ -19,9 +19,11 @@ use Rattle.plan.specs.declared.Header.{Header}
 use Rattle.plan.specs.Layout.{headOf, limitOffset, linkOffset, limitAt, linkAt, planOf}
 use Rattle.answers.specs.Order.{_then_, unless}
 use Rattle.answers.proofs.CodeZero.{code-zero, then-done, done-then, unless-done, done-unless}
-use Rattle.plan.specs.File.{pointsFit, countsFit, laidOut, headAnswer, limitFits, limitPlace, limitsAnswer, linksAnswer, frontAnswer, fileAnswer, addAnswer, PlanFile}
+use Rattle.plan.specs.File.{pointsFit, countsFit, laidOut, countsAnswer, limitFits, limitPlace, backAnswer, fileFront, fileAnswer, addAnswer, PlanFile}
 use Rattle.plan.proofs.TestsMade.{failed, passed, both, and}
-use Rattle.plan.proofs.Records.{Listed, records-length, record-in, in-records}
+use Rattle.plan.proofs.FileParts.{headAnswer, to-limits, front-parts, file-parts}
+pub use Rattle.plan.proofs.FileParts.{limits-length, links-length, points-is}
+use Rattle.plan.proofs.Records.{Listed, record-in, in-records}
 use Rattle.plan.proofs.TestsDecide.{limit-ok, ok-limit, limits-ok, ok-limits, LinksOk, links-ok, ok-links}
 
 -- ---- the header
@@ -39,15 +41,15 @@ pub record HeadOk (size : ℕ) (h : Header) : Type 0 where
   pub exact : size ≡ linkOffset (h .limits) (h .links)
 
 pub head-ok : (size : ℕ) (h : Header) → headAnswer size h ≡ Done → HeadOk size h
-unfolding headAnswer
+unfolding countsAnswer
 head-ok size h e =
     let one = leb 24 size in
     let two = eqb (h .version) 1 in
     let three = pointsFit version1 (h .points) in
     let four = countsFit version1 (h .limits) (h .links) in
     let five = laidOut size h in
-    let p = then-done (unless one FewBytes) (unless two BadVersion then unless three BadPoints then unless four BadCounts then unless five BadLayout) e in
-    let q = then-done (unless two BadVersion) (unless three BadPoints then unless four BadCounts then unless five BadLayout) (p .1) in
+    let q = then-done (unless one FewBytes then unless two BadVersion) (unless three BadPoints then unless four BadCounts then unless five BadLayout) e in
+    let p = then-done (unless one FewBytes) (unless two BadVersion) (q .0) in
     let r = then-done (unless three BadPoints) (unless four BadCounts then unless five BadLayout) (q .1) in
     let s = then-done (unless four BadCounts) (unless five BadLayout) (r .1) in
     let n = both (leb 1 (h .points)) (leb (h .points) (version1 .points)) (unless-done three BadPoints refl (r .0)) in
@@ -58,7 +60,7 @@ head-ok size h e =
     let o = both a b (l .0) in
     record {
       room = leb-true 24 size (unless-done one FewBytes refl (p .0));
-      version = eqb-true (h .version) 1 (unless-done two BadVersion refl (q .0));
+      version = eqb-true (h .version) 1 (unless-done two BadVersion refl (p .1));
       some-point = leb-true 1 (h .points) (n .0);
       points = leb-true (h .points) (version1 .points) (n .1);
       limits = leb-true (h .limits) (version1 .limits) (c .0);
@@ -69,7 +71,7 @@ head-ok size h e =
     }
 
 pub ok-head : (size : ℕ) (h : Header) → HeadOk size h → headAnswer size h ≡ Done
-unfolding headAnswer
+unfolding countsAnswer
 ok-head size h g =
     let n : pointsFit version1 (h .points) ≡ true = and (le-leb 1 (h .points) (g .some-point)) (le-leb (h .points) (version1 .points) (g .points)) in
     let c : countsFit version1 (h .limits) (h .links) ≡ true = and (le-leb (h .limits) (version1 .limits) (g .limits)) (le-leb (h .links) (version1 .links) (g .links)) in
@@ -79,21 +81,17 @@ ok-head size h g =
 
 -- ---- the whole file
 
--- the answers to a file's limits and to its links
-abbrev to-limits : List ℕ → Answer
-to-limits s = limitsAnswer version1 (planOf s .points) 0 (planOf s .limits)
-
+-- the answer to a file's links
 abbrev to-links : List ℕ → Answer
-to-links s = linksAnswer version1 (planOf s .points) 0 [] (planOf s .links)
+to-links s = backAnswer version1 (planOf s)
 
 -- a file's answer is Done exactly where the three parts are
 parts : (s : List ℕ)
     → fileAnswer s ≡ Done
     → (headAnswer (length s) (headOf s) ≡ Done) × (to-limits s ≡ Done) × (to-links s ≡ Done)
-unfolding fileAnswer frontAnswer
 parts s e =
-    let p = then-done (headAnswer (length s) (headOf s) then to-limits s) (to-links s) e in
-    let q = then-done (headAnswer (length s) (headOf s)) (to-limits s) (p .0) in
+    let p = then-done (fileFront s) (to-links s) (rw file-parts at e) in
+    let q = then-done (headAnswer (length s) (headOf s)) (to-limits s) (rw front-parts at (p .0)) in
     (q .0, q .1, p .1)
 
 joined : (s : List ℕ)
@@ -101,23 +99,9 @@ joined : (s : List ℕ)
     → to-limits s ≡ Done
     → to-links s ≡ Done
     → fileAnswer s ≡ Done
-unfolding fileAnswer frontAnswer
 joined s a b c =
-    let front = done-then (headAnswer (length s) (headOf s)) (to-limits s) a b in
-    done-then (headAnswer (length s) (headOf s) then to-limits s) (to-links s) front c
-
--- the plan's lists are as long as the header says
-pub limits-length : (s : List ℕ) → length (planOf s .limits) ≡ headOf s .limits
-unfolding planOf
-limits-length s = records-length (limitAt s) 0 (headOf s .limits)
-
-pub links-length : (s : List ℕ) → length (planOf s .links) ≡ headOf s .links
-unfolding planOf
-links-length s = records-length (linkAt s (headOf s .limits)) 0 (headOf s .links)
-
-pub points-is : (s : List ℕ) → planOf s .points ≡ headOf s .points
-unfolding planOf
-points-is s = refl
+    let front : fileFront s ≡ Done = rw front-parts (done-then (headAnswer (length s) (headOf s)) (to-limits s) a b) in
+    rw file-parts (done-then (fileFront s) (to-links s) front c)
 
 -- every range of the paper, from the three parts
 in-range : (s : List ℕ)
@@ -213,7 +197,7 @@ sound-exactly s = (there, back)
 
 pub add-exactly : (s : List ℕ) (added : Limit)
     → (addAnswer s added ≡ Done) ↔ ((fileAnswer s ≡ Done) × LimitInRange version1 (planOf s .points) added)
-unfolding addAnswer fileAnswer
+unfolding addAnswer
 add-exactly s added = (there, back)
   where
     fits : Bool
@@ -224,17 +208,17 @@ add-exactly s added = (there, back)
 
     there : addAnswer s added ≡ Done → (fileAnswer s ≡ Done) × LimitInRange version1 (planOf s .points) added
     there e =
-        let p = then-done (frontAnswer s) (unless fits refusal then to-links s) e in
+        let p = then-done (fileFront s) (unless fits refusal then to-links s) e in
         let q = then-done (unless fits refusal) (to-links s) (p .1) in (
-          done-then (frontAnswer s) (to-links s) (p .0) (q .1),
+          rw file-parts (done-then (fileFront s) (to-links s) (p .0) (q .1)),
           limit-ok version1 (planOf s .points) added (unless-done fits refusal refl (q .0)),
         )
 
     back : (fileAnswer s ≡ Done) × LimitInRange version1 (planOf s .points) added → addAnswer s added ≡ Done
     back g =
-        let p = then-done (frontAnswer s) (to-links s) (g .0) in
+        let p = then-done (fileFront s) (to-links s) (rw file-parts at (g .0)) in
         let own = done-unless fits refusal (ok-limit version1 (planOf s .points) added (g .1)) in
-        done-then (frontAnswer s) (unless fits refusal then to-links s) (p .0) (done-then (unless fits refusal) (to-links s) own (p .1))
+        done-then (fileFront s) (unless fits refusal then to-links s) (p .0) (done-then (unless fits refusal) (to-links s) own (p .1))
 
 -- ---- from what the calls ensure: a is what `sound` or `sound_with` answered, t what `accepted` said of it
 

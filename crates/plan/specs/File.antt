@@ -8,7 +8,7 @@ use lib.Dec.{leb, ltb, eqb}
 use lib.ListN.{length}
 use lib.IntN.{pos, negℤ}
 use lib.Signed.{leZ}
-use Rattle.rules.specs.Plan.{Limit, Link, Ranges, version1, InRange}
+use Rattle.rules.specs.Plan.{Limit, Link, Plan, Ranges, version1, InRange}
 use Rattle.rules.specs.declared.Answer.{Answer}
 use Rattle.rules.specs.declared.Answer.the-variants.{Done, FewBytes, BadVersion, BadPoints, BadCounts, BadLayout, BadLimit, BadLink, RepeatedLink}
 use Rattle.answers.specs.Order.{_then_, unless}
@@ -28,14 +28,14 @@ abbrev pub laidOut : ℕ → Header → Bool
 laidOut size h =
     eqb (h .«limits_at») (limitOffset 0) && eqb (h .«links_at») (limitOffset (h .limits)) && eqb size (linkOffset (h .limits) (h .links))
 
--- "The order is 1 to 5": the answer to a file of so many bytes with such a header
-unfoldable pub headAnswer : ℕ → Header → Answer
-headAnswer size h =
-    unless (leb 24 size) FewBytes
-    then unless (eqb (h .version) 1) BadVersion
-    then unless (pointsFit version1 (h .points)) BadPoints
-    then unless (countsFit version1 (h .limits) (h .links)) BadCounts
-    then unless (laidOut size h) BadLayout
+-- "fewer than 24 bytes", "version not 1": codes 1 and 2 of a file of so many bytes with such a header
+abbrev pub formAnswer : ℕ → Header → Answer
+formAnswer size h = unless (leb 24 size) FewBytes then unless (eqb (h .version) 1) BadVersion
+
+-- codes 3, 4 and 5 of n points, m limits and k links; `laid` says whether the rest is as laid down
+unfoldable pub countsAnswer : Ranges → ℕ → ℕ → ℕ → Bool → Answer
+countsAnswer r n m k laid =
+    unless (pointsFit r n) BadPoints then unless (countsFit r m k) BadCounts then unless laid BadLayout
 
 -- "every point named is below n", "w from -1,000,000 to 1,000,000"
 unfoldable pub limitFits : Ranges → ℕ → Limit → Bool
@@ -85,20 +85,33 @@ abbrev pub linksAnswer : Ranges → ℕ → ℕ → List Link → List Link → 
 linksAnswer r n i earlier [] = Done
 linksAnswer r n i earlier (k ∷ ks) = linkAnswer r n i earlier k then linksAnswer r n (suc i) (k ∷ earlier) ks
 
--- "The order is 1 to 5; limits in file order"
-unfoldable pub frontAnswer : List ℕ → Answer
-frontAnswer s = headAnswer (length s) (headOf s) then limitsAnswer version1 (planOf s .points) 0 (planOf s .limits)
+-- codes 3 to 6 of a plan: ".. 5; limits in file order"
+unfoldable pub frontAnswer : Ranges → Bool → Plan → Answer
+frontAnswer r laid p =
+    countsAnswer r (p .points) (length (p .limits)) (length (p .links)) laid then limitsAnswer r (p .points) 0 (p .limits)
 
--- codes 1 to 8 of a file: the links come last
+-- codes 7 and 8 of a plan: "links in file order, each tested for 7 and then 8"
+abbrev pub backAnswer : Ranges → Plan → Answer
+backAnswer r p = linksAnswer r (p .points) 0 [] (p .links)
+
+-- codes 3 to 8 of a plan, whether a file holds it or lists do
+unfoldable pub planAnswer : Ranges → Bool → Plan → Answer
+planAnswer r laid p = frontAnswer r laid p then backAnswer r p
+
+-- codes 1 to 6 of a file
+unfoldable pub fileFront : List ℕ → Answer
+fileFront s = formAnswer (length s) (headOf s) then frontAnswer version1 (laidOut (length s) (headOf s)) (planOf s)
+
+-- codes 1 to 8 of a file
 unfoldable pub fileAnswer : List ℕ → Answer
-fileAnswer s = frontAnswer s then linksAnswer version1 (planOf s .points) 0 [] (planOf s .links)
+fileAnswer s = formAnswer (length s) (headOf s) then planAnswer version1 (laidOut (length s) (headOf s)) (planOf s)
 
 -- codes 1 to 8 of Add: "limits in file order, then Add's limit; links in file order"; "for the limit handed to Add: m"
 unfoldable pub addAnswer : List ℕ → Limit → Answer
 addAnswer s added =
-    frontAnswer s
+    fileFront s
     then limitAnswer version1 (planOf s .points) (headOf s .limits) added
-    then linksAnswer version1 (planOf s .points) 0 [] (planOf s .links)
+    then backAnswer version1 (planOf s)
 
 -- what a plan file is: "Plan file" of the paper, sentence by sentence
 pub record PlanFile (s : List ℕ) : Type 0 where

@@ -1,10 +1,11 @@
--- Document 01, "Plan file": where the header's fields and the records lie, and the plan that the bytes hold.
+-- Document 01, "Plan file": where the header's fields and the records lie, the plan that the bytes hold, and the bytes of a plan.
 -- Assumes nothing.
-use mathlib.Core.List.{List, [], _∷_}
+use mathlib.Core.List.{List, [], _∷_, _++_, flatMap}
 use Prim.Native.Nat.{ℕ, zero, suc, _+_, _*_}
+use lib.ListN.{length}
 use Rattle.rules.specs.Plan.{Limit, Link, Plan}
 use Rattle.plan.specs.declared.Header.{Header}
-use Rattle.fields.specs.Bytes.{wordAt, signedAt}
+use Rattle.fields.specs.Bytes.{wordAt, signedAt, wordBytes, bitsOf}
 
 -- "The header holds counts and offsets, 24 bytes: version (1), points n, limits m, links k, offset of the limits, offset of the links."
 unfoldable pub headOf : List ℕ → Header
@@ -63,3 +64,26 @@ planOf s =
       limits = records (limitAt s) 0 (headOf s .limits);
       links = records (linkAt s (headOf s .limits)) 0 (headOf s .links);
     }
+
+-- "version (1), points n, limits m, links k, offset of the limits, offset of the links"
+abbrev pub headFields : ℕ → ℕ → ℕ → List ℕ
+headFields n m k = 1 ∷ n ∷ m ∷ k ∷ limitOffset 0 ∷ limitOffset m ∷ []
+
+-- "from X, to Y, signed weight w"
+abbrev pub limitFields : Limit → List ℕ
+limitFields m = m .from ∷ m .to ∷ bitsOf (m .weight) ∷ []
+
+-- "activation A, contingent point C, shortest l, longest u"
+abbrev pub linkFields : Link → List ℕ
+linkFields k = k .act ∷ k .con ∷ k .short ∷ k .long ∷ []
+
+-- "The file's fields in order" of a plan: "header, limits and links in the order given" (document 02, item 1)
+unfoldable pub planFields : Plan → List ℕ
+planFields p =
+    headFields (p .points) (length (p .limits)) (length (p .links))
+    ++ flatMap limitFields (p .limits)
+    ++ flatMap linkFields (p .links)
+
+-- the bytes of a plan: "All fields are 32-bit, little-endian."
+unfoldable pub planBytes : Plan → List ℕ
+planBytes p = flatMap wordBytes (planFields p)

@@ -15,7 +15,7 @@ pub fn points_fit(n: u32) -> bool
 }
 
 // Whether the numbers of limits and of links are in range.
-pub fn counts_fit(m: u32, k: u32) -> bool
+pub fn counts_fit(m: usize, k: usize) -> bool
     ensures { λ r. ⌜ r ≡ countsFit version1 m k ⌝ }
 {
     (m <= 1_024) & (k <= 32)

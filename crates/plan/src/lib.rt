@@ -8,7 +8,9 @@ pub use record::head;
 pub use record::limit_at;
 pub use record::link_at;
 ghost use mathlib.Core.Path.{_≡_};
-ghost use Rattle.plan.specs.File.{headAnswer, frontAnswer, fileAnswer, addAnswer};
+ghost use Rattle.rules.specs.Plan.{version1};
+ghost use Rattle.answers.specs.Order.{_then_};
+ghost use Rattle.plan.specs.File.{laidOut, formAnswer, countsAnswer, fileFront, fileAnswer, addAnswer};
 use answers::accepted;
 use fits::counts_fit;
 use fits::laid_out;
@@ -43,9 +45,25 @@ pub struct Header {
     pub links_at: u32,
 }
 
+// Codes 3, 4 and 5, of n points, m limits and k links; `laid` says whether the rest is as laid down.
+pub fn counts_answer(n: u32, m: usize, k: usize, laid: bool) -> Answer
+    ensures { λ r. ⌜ r ≡ countsAnswer version1 n m k laid ⌝ }
+{
+    if !points_fit(n) {
+        return Answer::BadPoints;
+    }
+    if !counts_fit(m, k) {
+        return Answer::BadCounts;
+    }
+    if !laid {
+        return Answer::BadLayout;
+    }
+    Answer::Done
+}
+
 // Codes 1 to 5, of a file of so many bytes with such a header.
 fn head_answer(size: usize, h: Header) -> Answer
-    ensures { λ r. ⌜ r ≡ headAnswer size h ⌝ }
+    ensures { λ r. ⌜ r ≡ (formAnswer size h then countsAnswer version1 (h .points) (h .limits) (h .links) (laidOut size h)) ⌝ }
 {
     if size < 24 {
         return Answer::FewBytes;
@@ -53,21 +71,13 @@ fn head_answer(size: usize, h: Header) -> Answer
     if h.version != 1 {
         return Answer::BadVersion;
     }
-    if !points_fit(h.points) {
-        return Answer::BadPoints;
-    }
-    if !counts_fit(h.limits, h.links) {
-        return Answer::BadCounts;
-    }
-    if !laid_out(size, h) {
-        return Answer::BadLayout;
-    }
-    Answer::Done
+    let laid = laid_out(size, h);
+    counts_answer(h.points, h.limits as usize, h.links as usize, laid)
 }
 
 // Codes 1 to 6: the header and the limits.
 fn front(file: &[u8]) -> Answer
-    ensures { λ r. ⌜ r ≡ frontAnswer (now (file .entry)) ⌝ }
+    ensures { λ r. ⌜ r ≡ fileFront (now (file .entry)) ⌝ }
 {
     let h = head(file);
     let a = head_answer(file.len(), h);
