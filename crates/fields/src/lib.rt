@@ -1,8 +1,10 @@
-// A field of a lent file: a 32-bit number, its lowest byte first, at any position.
+// A field of a lent file: a 32-bit number, its lowest byte first, at any position; read, and written.
 ghost use mathlib.Core.Path.{_≡_};
+ghost use mathlib.Core.List.{[], _∷_};
 ghost use Prim.Native.Nat.{_+_, _≤_};
 ghost use lib.ListN.{length};
-ghost use Rattle.fields.specs.Bytes.{byteAt, wordOf, wordAt, signedOf, signedAt};
+ghost use lib.Seq.{sets};
+ghost use Rattle.fields.specs.Bytes.{byteAt, wordOf, wordAt, signedOf, signedAt, wordBytes, bitsOf};
 
 // The byte i places after a position; past the end it counts as 0.
 fn byte_at(file: &[u8], at: usize, i: usize) -> u8
@@ -67,4 +69,41 @@ pub fn signed_at(file: &[u8], at: usize) -> i32
     ensures { λ r. ⌜ r ≡ signedAt (now (file .entry)) at ⌝ }
 {
     signed(unsigned_at(file, at))
+}
+
+// The 32 bits that stand for a signed number.
+pub fn bits(w: i32) -> u32
+    ensures { λ r. ⌜ r ≡ bitsOf w ⌝ }
+{
+    if 0 <= w {
+        w as u32
+    } else {
+        4_294_967_295 - ((-1 - w) as u32)
+    }
+}
+
+// Four bytes written from a position on, from which on the buffer has room for them.
+fn put_bytes(buffer: &mut [u8], at: usize, a: u8, b: u8, c: u8, d: u8)
+    requires { ⌜ at + 4 ≤ length (now buffer) ⌝ }
+    ensures { λ r. ⌜ now (buffer .exit) ≡ sets (now (buffer .entry)) at (a ∷ b ∷ c ∷ d ∷ []) ⌝ }
+{
+    buffer[at] = a;
+    buffer[at + 1] = b;
+    buffer[at + 2] = c;
+    buffer[at + 3] = d;
+}
+
+// A field written at a position from which on the buffer has room for its four bytes.
+pub fn put(buffer: &mut [u8], at: usize, w: u32)
+    requires { ⌜ at + 4 ≤ length (now buffer) ⌝ }
+    ensures { λ r. ⌜ now (buffer .exit) ≡ sets (now (buffer .entry)) at (wordBytes w) ⌝ }
+{
+    put_bytes(
+        buffer,
+        at,
+        (w % 256) as u8,
+        (w / 256 % 256) as u8,
+        (w / 65_536 % 256) as u8,
+        (w / 16_777_216 % 256) as u8,
+    )
 }

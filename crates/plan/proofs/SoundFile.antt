@@ -14,17 +14,17 @@ use borrow.Author.Tests.{leb-true, eqb-true, le-leb, eq-eqb}
 use Rattle.rules.specs.Plan.{Limit, Link, version1, LimitInRange, LinkInRange, InRange}
 use Rattle.rules.specs.Answers.{codeOf}
 use Rattle.rules.specs.declared.Answer.{Answer}
-use Rattle.rules.specs.declared.Answer.the-variants.{Done, FewBytes, BadVersion, BadPoints, BadCounts, BadLayout, BadLimit}
+use Rattle.rules.specs.declared.Answer.the-variants.{Done, FewBytes, BadVersion, BadLimit}
 use Rattle.plan.specs.declared.Header.{Header}
 use Rattle.plan.specs.Layout.{headOf, limitOffset, linkOffset, limitAt, linkAt, planOf}
 use Rattle.answers.specs.Order.{_then_, unless}
 use Rattle.answers.proofs.CodeZero.{code-zero, then-done, done-then, unless-done, done-unless}
-use Rattle.plan.specs.File.{pointsFit, countsFit, laidOut, countsAnswer, limitFits, limitPlace, backAnswer, fileFront, fileAnswer, addAnswer, PlanFile}
+use Rattle.plan.specs.File.{laidOut, countsAnswer, limitFits, limitPlace, backAnswer, fileFront, fileAnswer, addAnswer, PlanFile}
 use Rattle.plan.proofs.TestsMade.{failed, passed, both, and}
 use Rattle.plan.proofs.FileParts.{headAnswer, to-limits, front-parts, file-parts}
 pub use Rattle.plan.proofs.FileParts.{limits-length, links-length, points-is}
 use Rattle.plan.proofs.Records.{Listed, record-in, in-records}
-use Rattle.plan.proofs.TestsDecide.{limit-ok, ok-limit, limits-ok, ok-limits, LinksOk, links-ok, ok-links}
+use Rattle.plan.proofs.TestsDecide.{counts-ok, ok-counts, limit-ok, ok-limit, limits-ok, ok-limits, LinksOk, links-ok, ok-links}
 
 -- ---- the header
 
@@ -41,43 +41,37 @@ pub record HeadOk (size : ℕ) (h : Header) : Type 0 where
   pub exact : size ≡ linkOffset (h .limits) (h .links)
 
 pub head-ok : (size : ℕ) (h : Header) → headAnswer size h ≡ Done → HeadOk size h
-unfolding countsAnswer
 head-ok size h e =
     let one = leb 24 size in
     let two = eqb (h .version) 1 in
-    let three = pointsFit version1 (h .points) in
-    let four = countsFit version1 (h .limits) (h .links) in
-    let five = laidOut size h in
-    let q = then-done (unless one FewBytes then unless two BadVersion) (unless three BadPoints then unless four BadCounts then unless five BadLayout) e in
+    let laid = laidOut size h in
+    let q = then-done (unless one FewBytes then unless two BadVersion) (countsAnswer version1 (h .points) (h .limits) (h .links) laid) e in
     let p = then-done (unless one FewBytes) (unless two BadVersion) (q .0) in
-    let r = then-done (unless three BadPoints) (unless four BadCounts then unless five BadLayout) (q .1) in
-    let s = then-done (unless four BadCounts) (unless five BadLayout) (r .1) in
-    let n = both (leb 1 (h .points)) (leb (h .points) (version1 .points)) (unless-done three BadPoints refl (r .0)) in
-    let c = both (leb (h .limits) (version1 .limits)) (leb (h .links) (version1 .links)) (unless-done four BadCounts refl (s .0)) in
+    let c = counts-ok version1 (h .points) (h .limits) (h .links) laid (q .1) in
     let a = eqb (h .«limits_at») (limitOffset 0) in
     let b = eqb (h .«links_at») (limitOffset (h .limits)) in
-    let l = both (a && b) (eqb size (linkOffset (h .limits) (h .links))) (unless-done five BadLayout refl (s .1)) in
+    let l = both (a && b) (eqb size (linkOffset (h .limits) (h .links))) (c .as-laid) in
     let o = both a b (l .0) in
     record {
       room = leb-true 24 size (unless-done one FewBytes refl (p .0));
       version = eqb-true (h .version) 1 (unless-done two BadVersion refl (p .1));
-      some-point = leb-true 1 (h .points) (n .0);
-      points = leb-true (h .points) (version1 .points) (n .1);
-      limits = leb-true (h .limits) (version1 .limits) (c .0);
-      links = leb-true (h .links) (version1 .links) (c .1);
+      some-point = c .some-point;
+      points = c .points;
+      limits = c .limits;
+      links = c .links;
       limits-at = eqb-true (h .«limits_at») (limitOffset 0) (o .0);
       links-at = eqb-true (h .«links_at») (limitOffset (h .limits)) (o .1);
       exact = eqb-true size (linkOffset (h .limits) (h .links)) (l .1);
     }
 
 pub ok-head : (size : ℕ) (h : Header) → HeadOk size h → headAnswer size h ≡ Done
-unfolding countsAnswer
 ok-head size h g =
-    let n : pointsFit version1 (h .points) ≡ true = and (le-leb 1 (h .points) (g .some-point)) (le-leb (h .points) (version1 .points) (g .points)) in
-    let c : countsFit version1 (h .limits) (h .links) ≡ true = and (le-leb (h .limits) (version1 .limits) (g .limits)) (le-leb (h .links) (version1 .links) (g .links)) in
     let o = and (eq-eqb (h .«limits_at») (limitOffset 0) (g .limits-at)) (eq-eqb (h .«links_at») (limitOffset (h .limits)) (g .links-at)) in
     let l : laidOut size h ≡ true = and o (eq-eqb size (linkOffset (h .limits) (h .links)) (g .exact)) in
-    simp (le-leb 24 size (g .room), eq-eqb (h .version) 1 (g .version), n, c, l)
+    let c =
+        ok-counts version1 (h .points) (h .limits) (h .links) (laidOut size h)
+        (record { some-point = g .some-point; points = g .points; limits = g .limits; links = g .links; as-laid = l }) in
+    simp (le-leb 24 size (g .room), eq-eqb (h .version) 1 (g .version), c)
 
 -- ---- the whole file
 

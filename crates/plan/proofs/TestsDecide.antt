@@ -4,17 +4,17 @@ use mathlib.Core.Path.{_≡_, refl, sym, subst}
 use mathlib.Core.Logic.{_≢_, ⊎-elim}
 use mathlib.Core.Bool.{Bool, true, false, not, _&&_}
 use mathlib.Core.List.{List, [], _∷_, List·Memᴰ, List·Memᴰ·head, List·Memᴰ·tail, List·Memᴰ·cases-cons, List·Memᴰ·not-nil}
-use Prim.Native.Nat.{ℕ, suc}
+use Prim.Native.Nat.{ℕ, suc, _≤_}
 use lib.Dec.{T, leb, ltb, eqb}
 use lib.IntN.{ℤ, pos, negℤ}
 use lib.Signed.{leZ, _≤ℤ_}
 use borrow.Author.Tests.{ltb-true, leb-true, eqb-false, not-true, lt-ltb, le-leb, ne-eqb}
 use Rattle.rules.specs.Plan.{Limit, Link, Ranges, LimitInRange, LinkInRange, Unshared}
-use Rattle.rules.specs.declared.Answer.the-variants.{Done, BadLimit, BadLink, RepeatedLink}
+use Rattle.rules.specs.declared.Answer.the-variants.{Done, BadPoints, BadCounts, BadLayout, BadLimit, BadLink, RepeatedLink}
 use Rattle.plan.proofs.TestsMade.{both, and}
-use Rattle.answers.specs.Order.{unless}
+use Rattle.answers.specs.Order.{_then_, unless}
 use Rattle.answers.proofs.CodeZero.{then-done, done-then, unless-done, done-unless}
-use Rattle.plan.specs.File.{limitFits, linkFits, fresh, limitPlace, linkPlace, limitsAnswer, linkAnswer, linksAnswer}
+use Rattle.plan.specs.File.{pointsFit, countsFit, countsAnswer, limitFits, linkFits, fresh, limitPlace, linkPlace, limitsAnswer, linkAnswer, linksAnswer}
 
 -- ---- tests
 
@@ -34,6 +34,40 @@ differ a b e = eqb-false a b (not-true (eqb a b) e)
 
 are-different : (a b : ℕ) → a ≢ b → not (eqb a b) ≡ true
 are-different a b h = rw (ne-eqb a b h)
+
+-- ---- n, m and k
+
+-- what a Done answer to n, m and k says of them
+pub record CountsOk (r : Ranges) (n m k : ℕ) (laid : Bool) : Type 0 where
+  pub some-point : 1 ≤ n
+  pub points : n ≤ r .points
+  pub limits : m ≤ r .limits
+  pub links : k ≤ r .links
+  pub as-laid : laid ≡ true
+
+pub counts-ok : (r : Ranges) (n m k : ℕ) (laid : Bool) → countsAnswer r n m k laid ≡ Done → CountsOk r n m k laid
+unfolding countsAnswer
+counts-ok r n m k laid e =
+    let three = pointsFit r n in
+    let four = countsFit r m k in
+    let p = then-done (unless three BadPoints) (unless four BadCounts then unless laid BadLayout) e in
+    let q = then-done (unless four BadCounts) (unless laid BadLayout) (p .1) in
+    let a = both (leb 1 n) (leb n (r .points)) (unless-done three BadPoints refl (p .0)) in
+    let b = both (leb m (r .limits)) (leb k (r .links)) (unless-done four BadCounts refl (q .0)) in
+    record {
+      some-point = leb-true 1 n (a .0);
+      points = leb-true n (r .points) (a .1);
+      limits = leb-true m (r .limits) (b .0);
+      links = leb-true k (r .links) (b .1);
+      as-laid = unless-done laid BadLayout refl (q .1);
+    }
+
+pub ok-counts : (r : Ranges) (n m k : ℕ) (laid : Bool) → CountsOk r n m k laid → countsAnswer r n m k laid ≡ Done
+unfolding countsAnswer
+ok-counts r n m k laid c =
+    let p : pointsFit r n ≡ true = and (le-leb 1 n (c .some-point)) (le-leb n (r .points) (c .points)) in
+    let q : countsFit r m k ≡ true = and (le-leb m (r .limits) (c .limits)) (le-leb k (r .links) (c .links)) in
+    simp (p, q, c .as-laid)
 
 -- ---- limits
 

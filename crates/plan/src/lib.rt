@@ -4,6 +4,8 @@ mod fits;
 mod record;
 mod scan;
 
+pub use fits::limit_fits;
+pub use fits::link_fits;
 pub use record::head;
 pub use record::limit_at;
 pub use record::link_at;
@@ -14,7 +16,6 @@ ghost use Rattle.plan.specs.File.{laidOut, formAnswer, countsAnswer, fil
 use answers::accepted;
 use fits::counts_fit;
 use fits::laid_out;
-use fits::limit_fits;
 use fits::points_fit;
 use rules::Answer;
 use scan::limits;

@@ -2,3 +2,4 @@
 pub mod Lists
 pub mod Wrote
 pub mod RoundTrips
+pub mod Puts

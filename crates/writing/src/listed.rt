@@ -1,0 +1,97 @@
+// Limit i and link i of lent lists; codes 3 to 8 of the plan that the lists hold.
+ghost use mathlib.Core.Path.{_≡_};
+ghost use mathlib.Core.Bool.{_&&_};
+ghost use mathlib.Core.List.{[]};
+ghost use Prim.Native.Nat.{_≤_, _<_};
+ghost use lib.Dec.{eqb};
+ghost use lib.ListN.{length};
+ghost use Rattle.rules.specs.Plan.{version1};
+ghost use Rattle.plan.specs.Layout.{records, earlier};
+ghost use Rattle.plan.specs.Values.{limitOf, linkOf};
+ghost use Rattle.plan.specs.File.{fresh as File·fresh, limitsAnswer, linksAnswer, planAnswer};
+ghost use Rattle.writing.specs.Lists.{Lists, limitIn, linkIn, listedPlan, evenLists};
+use answers::accepted;
+use plan::counts_answer;
+use plan::limit_fits;
+use plan::link_fits;
+use plan::Limit;
+use plan::Link;
+use rules::Answer;
+
+// The limit at an index of three lists.
+pub fn limit_in(from: &[u32], to: &[u32], weight: &[i32], i: u32) -> Limit
+    requires { ⌜ (i < length (now from)) × (i < length (now to)) × (i < length (now weight)) ⌝ }
+    ensures { λ r. ⌜ limitOf r ≡ limitIn (now (from .entry)) (now (to .entry)) (now (weight .entry)) i ⌝ }
+{
+    let at = i as usize;
+    Limit {
+        from: from[at],
+        to: to[at],
+        weight: weight[at],
+    }
+}
+
+// The link at an index of four lists.
+pub fn link_in(act: &[u32], con: &[u32], short: &[u32], long: &[u32], i: u32) -> Link
+    requires { ⌜ (i < length (now act)) × (i < length (now con)) × (i < length (now short)) × (i < length (now long)) ⌝ }
+    ensures { λ r. ⌜ linkOf r ≡ linkIn (now (act .entry)) (now (con .entry)) (now (short .entry)) (now (long .entry)) i ⌝ }
+{
+    let at = i as usize;
+    Link {
+        act: act[at],
+        con: con[at],
+        short: short[at],
+        long: long[at],
+    }
+}
+
+// The answer to the first m limits, of a plan of n points.
+pub fn limits(n: u32, m: u32, from: &[u32], to: &[u32], weight: &[i32]) -> Answer
+    requires { ⌜ (m ≤ length (now from)) × (m ≤ length (now to)) × (m ≤ length (now weight)) ⌝ }
+    ensures { λ r. ⌜ r ≡ limitsAnswer version1 n 0 (records (limitIn (now (from .entry)) (now (to .entry)) (now (weight .entry))) 0 m) ⌝ }
+{
+    let mut i = 0;
+    while i < m {
+        let limit = limit_in(from, to, weight, i);
+        if !limit_fits(n, limit) {
+            return Answer::BadLimit(i);
+        }
+        i += 1;
+    }
+    Answer::Done
+}
+
+// Whether a point is the contingent point of none of the first i links. It looks back from the last of them.
+fn fresh(act: &[u32], con: &[u32], short: &[u32], long: &[u32], i: u32, point: u32) -> bool
+    requires { ⌜ (i ≤ length (now act)) × (i ≤ length (now con)) × (i ≤ length (now short)) × (i ≤ length (now long)) ⌝ }
+    ensures { λ r. ⌜ r ≡ File·fresh point (earlier (linkIn (now (act .entry)) (now (con .entry)) (now (short .entry)) (now (long .entry))) i) ⌝ }
+{
+    let mut j = i;
+    while 0 < j {
+        j -= 1;
+        let other = link_in(act, con, short, long, j);
+        if other.con == point {
+            return false;
+        }
+    }
+    true
+}
+
+// The answer to the first k links, of a plan of n points.
+pub fn links(n: u32, k: u32, act: &[u32], con: &[u32], short: &[u32], long: &[u32]) -> Answer
+    requires { ⌜ (k ≤ length (now act)) × (k ≤ length (now con)) × (k ≤ length (now short)) × (k ≤ length (now long)) ⌝ }
+    ensures { λ r. ⌜ r ≡ linksAnswer version1 n 0 [] (records (linkIn (now (act .entry)) (now (con .entry)) (now (short .entry)) (now (long .entry))) 0 k) ⌝ }
+{
+    let mut i = 0;
+    while i < k {
+        let link = link_in(act, con, short, long, i);
+        if !link_fits(n, link) {
+            return Answer::BadLink(i);
+        }
+        if !fresh(act, con, short, long, i, link.con) {
+            return Answer::RepeatedLink(i);
+        }
+        i += 1;
+    }
+    Answer::Done
+}
