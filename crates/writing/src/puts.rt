@@ -1,6 +1,6 @@
 // Header, limits and links written into a buffer that has room for them.
 ghost use mathlib.Core.Path.{_≡_};
-ghost use mathlib.Core.List.{flatMap};
+ghost use mathlib.Core.List.{[], _∷_, flatMap};
 ghost use Prim.Native.Nat.{_+_, _≤_};
 ghost use lib.ListN.{length};
 ghost use Rattle.rules.specs.Plan.{version1};
@@ -15,17 +15,23 @@ use fields::put;
 use plan::Limit;
 use plan::Link;
 
+// Three fields from a position on.
+fn put_three(buffer: &mut [u8], at: usize, a: u32, b: u32, c: u32)
+    requires { ⌜ at + 12 ≤ length (now buffer) ⌝ }
+    ensures { λ r. ⌜ now (buffer .exit) ≡ putFields (now (buffer .entry)) at (a ∷ b ∷ c ∷ []) ⌝ }
+{
+    put(buffer, at, a);
+    put(buffer, at + 4, b);
+    put(buffer, at + 8, c);
+}
+
 // The header of a plan of n points, m limits and k links.
 pub fn put_head(buffer: &mut [u8], n: u32, m: u32, k: u32)
     requires { ⌜ (limitOffset 0 ≤ length (now buffer)) × (m ≤ version1 .limits) ⌝ }
     ensures { λ r. ⌜ now (buffer .exit) ≡ putFields (now (buffer .entry)) 0 (headFields n m k) ⌝ }
 {
-    put(buffer, 0, 1);
-    put(buffer, 4, n);
-    put(buffer, 8, m);
-    put(buffer, 12, k);
-    put(buffer, 16, 24);
-    put(buffer, 20, 24 + 12 * m);
+    put_three(buffer, 0, 1, n, m);
+    put_three(buffer, 12, k, 24, 24 + 12 * m);
 }
 
 // A limit at a position.
@@ -33,9 +39,7 @@ fn put_limit(buffer: &mut [u8], at: usize, limit: Limit)
     requires { ⌜ at + 12 ≤ length (now buffer) ⌝ }
     ensures { λ r. ⌜ now (buffer .exit) ≡ putFields (now (buffer .entry)) at (limitFields (limitOf limit)) ⌝ }
 {
-    put(buffer, at, limit.from);
-    put(buffer, at + 4, limit.to);
-    put(buffer, at + 8, bits(limit.weight));
+    put_three(buffer, at, limit.from, limit.to, bits(limit.weight));
 }
 
 // A link at a position.
