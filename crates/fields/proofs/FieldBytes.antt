@@ -9,7 +9,7 @@ use native.Mathlib.Omega.{arith}
 use borrow.Author.Tests.{lt-ltb}
 use lib.IntN.{ℤ, pos, negsuc}
 use lib.Signed.{mag}
-use Rattle.fields.specs.Bytes.{byteAt, wordOf, wordAt, signedOf, AllBytes, wordBytes, bitsOf}
+use Rattle.fields.specs.Bytes.{byteAt, wordOf, wordAt, signedOf, signedAt, AllBytes, wordBytes, bitsOf}
 use Rattle.fields.proofs.Halves.{signed-high}
 
 -- ---- bytes
@@ -40,7 +40,7 @@ high : {b : ℕ} (x : ℕ) → b < 256 → (b + 256 * x) / 256 ≡ x
 high {b} x h = omega (arith, low x h)
 
 -- four bytes are those of the number that they are read as
-of-bytes : {a b c d : ℕ} → a < 256 → b < 256 → c < 256 → d < 256 → wordBytes (wordOf a b c d) ≡ a ∷ b ∷ c ∷ d ∷ []
+pub of-bytes : {a b c d : ℕ} → a < 256 → b < 256 → c < 256 → d < 256 → wordBytes (wordOf a b c d) ≡ a ∷ b ∷ c ∷ d ∷ []
 unfolding wordBytes
 of-bytes {a} {b} {c} {d} h k l m =
     let e : wordOf a b c d ≡ a + 256 * (b + 256 * (c + 256 * d)) = omega arith in
@@ -91,3 +91,8 @@ bits-signed w h = by (decLe 2_147_483_648 w)
     by : Dec (2_147_483_648 ≤ w) → bitsOf (signedOf w) ≡ w
     by (yes l) = rw (signed-high w l h) (omega arith)
     by (no l) = rw (lt-ltb w 2_147_483_648 (omega arith))
+
+-- the bits of the signed field at a position are the unsigned one there
+pub bits-at : (s : List ℕ) → AllBytes s → (at : ℕ) → bitsOf (signedAt s at) ≡ wordAt s at
+unfolding signedAt
+bits-at s h at = bits-signed (wordAt s at) (word-fits s h at)
