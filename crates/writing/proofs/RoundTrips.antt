@@ -1,7 +1,6 @@
 -- The round trips: reading what was written gives the same plan, writing what was read gives the same bytes, lists hold every plan, and a plan
 -- file is exactly the bytes of a plan in range. Assumes nothing.
 use mathlib.Core.Path.{_≡_, refl, sym, ap, _∙_}
-use mathlib.Core.Logic.{_↔_}
 use mathlib.Core.Bool.{true}
 use mathlib.Core.List.{List, [], _∷_, _++_, map}
 use Prim.Native.Nat.{ℕ, suc, _+_, _≤_}
@@ -10,12 +9,12 @@ use native.Mathlib.Omega.{arith}
 use lib.Dec.{leb, eqb}
 use lib.ListN.{length, getD, take, drop, length-map, List·getD-map}
 use lib.Seq.{take-at}
-use lib.IntN.{ℤ, pos}
+use lib.IntN.{pos}
 use borrow.Author.Tests.{le-leb, eq-eqb}
-use Rattle.rules.specs.Plan.{Limit, Link, Plan, Ranges, version1, InRange}
+use Rattle.rules.specs.Plan.{Limit, Link, Plan, version1, InRange}
 use Rattle.rules.specs.declared.Answer.{Answer}
 use Rattle.rules.specs.declared.Answer.the-variants.{Done, ShortRoom}
-use Rattle.answers.specs.Order.{_then_, unless}
+use Rattle.answers.specs.Order.{unless}
 use Rattle.answers.proofs.CodeZero.{then-done, done-then, done-unless}
 use Rattle.fields.specs.Bytes.{AllBytes}
 use Rattle.plan.specs.Layout.{linkOffset, records, planOf, planBytes}
@@ -25,7 +24,7 @@ use Rattle.plan.proofs.TestsMade.{and}
 use Rattle.plan.proofs.SoundFile.{sound-exactly}
 use Rattle.writing.specs.Lists.{Lists, limitIn, linkIn, listedPlan, evenLists, Hold, listsOf}
 use Rattle.writing.specs.Wrote.{fileOf, writeAnswer, Wrote}
-use Rattle.writing.specs.RoundTrips.{Reads, BytesOfPlan, sizeOf, RoundTrips}
+use Rattle.writing.specs.RoundTrips.{Reads, sizeOf, RoundTrips}
 use Rattle.writing.proofs.PlanExactly.{plan-exactly}
 
 -- ---- lists of a plan
@@ -90,60 +89,59 @@ lists-hold p =
 -- ---- what is written
 
 module _
-  (bytes-size : (p : Plan) → length (planBytes p) ≡ linkOffset (length (p .limits)) (length (p .links)))
-  (bytes-bytes : (p : Plan) → AllBytes (planBytes p))
-  (bytes-read : (p : Plan) → InRange version1 p → planOf (planBytes p) ≡ p)
-  (bytes-plan-file : (p : Plan) → InRange version1 p → PlanFile (planBytes p))
-  (bytes-sound : (p : Plan) → InRange version1 p → fileAnswer (planBytes p) ≡ Done)
-  (read-bytes : (s : List ℕ) → AllBytes s → PlanFile s → planBytes (planOf s) ≡ s)
+    (bytes-size : (p : Plan) → length (planBytes p) ≡ linkOffset (length (p .limits)) (length (p .links)))
+    (bytes-bytes : (p : Plan) → AllBytes (planBytes p))
+    (bytes-read : (p : Plan) → InRange version1 p → planOf (planBytes p) ≡ p)
+    (bytes-plan-file : (p : Plan) → InRange version1 p → PlanFile (planBytes p))
+    (bytes-sound : (p : Plan) → InRange version1 p → fileAnswer (planBytes p) ≡ Done)
+    (read-bytes : (s : List ℕ) → AllBytes s → PlanFile s → planBytes (planOf s) ≡ s)
   where
-  -- the file of lists is as long as their lengths say
-  file-size : (l : Lists) → length (fileOf l) ≡ sizeOf l
-  unfolding listedPlan
-  file-size l =
-      let m = records-length (limitIn (l .from) (l .to) (l .weight)) 0 (length (l .from)) in
-      let k = records-length (linkIn (l .act) (l .con) (l .short) (l .long)) 0 (length (l .act)) in
-      omega (arith, bytes-size (listedPlan l), m, k)
+    -- the file of lists is as long as their lengths say
+    file-size : (l : Lists) → length (fileOf l) ≡ sizeOf l
+    unfolding listedPlan
+    file-size l =
+        let m = records-length (limitIn (l .from) (l .to) (l .weight)) 0 (length (l .from)) in
+        let k = records-length (linkIn (l .act) (l .con) (l .short) (l .long)) 0 (length (l .act)) in
+        omega (arith, bytes-size (listedPlan l), m, k)
 
-  -- with 0 the lists are even and their plan is in range; and with those and room in the buffer it is 0
-  written-ranges : (l : Lists) (room : ℕ) → writeAnswer l room ≡ Done → (evenLists l ≡ true) × InRange version1 (listedPlan l)
-  unfolding writeAnswer
-  written-ranges l room e =
-      let laid = planAnswer version1 (evenLists l) (listedPlan l) in
-      plan-exactly version1 (evenLists l) (listedPlan l) .0 (then-done laid (unless (leb (length (fileOf l)) room) ShortRoom) e .0)
+    -- with 0 the lists are even and their plan is in range; and with those and room in the buffer it is 0
+    written-ranges : (l : Lists) (room : ℕ) → writeAnswer l room ≡ Done → (evenLists l ≡ true) × InRange version1 (listedPlan l)
+    unfolding writeAnswer
+    written-ranges l room e =
+        let laid = planAnswer version1 (evenLists l) (listedPlan l) in
+        plan-exactly version1 (evenLists l) (listedPlan l) .0 (then-done laid (unless (leb (length (fileOf l)) room) ShortRoom) e .0)
 
-  ranges-written : (l : Lists) (room : ℕ) → evenLists l ≡ true → InRange version1 (listedPlan l) → length (fileOf l) ≤ room → writeAnswer l room ≡ Done
-  unfolding writeAnswer
-  ranges-written l room e g h =
-      let short = leb (length (fileOf l)) room in
-      done-then (planAnswer version1 (evenLists l) (listedPlan l)) (unless short ShortRoom)
-      (plan-exactly version1 (evenLists l) (listedPlan l) .1 (e, g)) (done-unless short ShortRoom (le-leb (length (fileOf l)) room h))
+    ranges-written : (l : Lists) (room : ℕ) → evenLists l ≡ true → InRange version1 (listedPlan l) → length (fileOf l) ≤ room → writeAnswer l room ≡ Done
+    unfolding writeAnswer
+    ranges-written l room e g h =
+        let fits = leb (length (fileOf l)) room in
+        done-then (planAnswer version1 (evenLists l) (listedPlan l)) (unless fits ShortRoom)
+        (plan-exactly version1 (evenLists l) (listedPlan l) .1 (e, g)) (done-unless fits ShortRoom (le-leb (length (fileOf l)) room h))
 
-  written-read : (l : Lists) (before after : List ℕ) → Wrote l before Done after → Reads (take (sizeOf l) after) (listedPlan l)
-  written-read l before after w =
-      let p = listedPlan l in
-      let g : InRange version1 p = written-ranges l (length before) (sym (w .answer)) .1 in
-      rw (w .written refl, take-at (fileOf l) (drop (length (fileOf l)) before) (sizeOf l) (file-size l))
-      (record { sound = bytes-sound p g; plan = bytes-read p g })
+    written-read : (l : Lists) (before after : List ℕ) → Wrote l before Done after → Reads (take (sizeOf l) after) (listedPlan l)
+    written-read l before after w =
+        let p = listedPlan l in
+        let g : InRange version1 p = written-ranges l (length before) (sym (w .answer)) .1 in
+        rw (w .written refl, take-at (fileOf l) (drop (length (fileOf l)) before) (sizeOf l) (file-size l))
+        (record { sound = bytes-sound p g; plan = bytes-read p g })
 
-  read-written : (s : List ℕ) → AllBytes s → fileAnswer s ≡ Done → (l : Lists) → Hold l (planOf s)
-      → (before : List ℕ) (a : Answer) (after : List ℕ) → length s ≤ length before → Wrote l before a after
-      → (a ≡ Done) × (after ≡ s ++ drop (length s) before)
-  read-written s b e l h before a after room w =
-      let f : PlanFile s = sound-exactly s .0 e in
-      let same : fileOf l ≡ s = rw (h .plan) (read-bytes s b f) in
-      let done : a ≡ Done =
-      w .answer ∙ ranges-written l (length before) (h .even) (rw (h .plan) (f .ranges)) (rw same room) in
-      (done, rw same at (w .written done))
+    read-written : (s : List ℕ) → AllBytes s → fileAnswer s ≡ Done → (l : Lists) → Hold l (planOf s)
+        → (before : List ℕ) (a : Answer) (after : List ℕ) → length s ≤ length before → Wrote l before a after
+        → (a ≡ Done) × (after ≡ s ++ drop (length s) before)
+    read-written s b e l h before a after room w =
+        let f : PlanFile s = sound-exactly s .0 e in
+        let same : fileOf l ≡ s = rw (h .plan) (read-bytes s b f) in
+        let done : a ≡ Done = w .answer ∙ ranges-written l (length before) (h .even) (rw (h .plan) (f .ranges)) (rw same room) in
+        (done, rw same at (w .written done))
 
-  round-trips : RoundTrips
-  round-trips =
-      record {
-        reading-what-was-written = written-read;
-        writing-what-was-read = read-written;
-        lists-of-a-plan = lists-hold;
-        plan-files-exactly = λ s. (
-          λ (b, f). record { plan = planOf s; ranges = f .ranges; bytes = sym (read-bytes s b f) },
-          λ o. rw (o .bytes) (bytes-bytes (o .plan), bytes-plan-file (o .plan) (o .ranges)),
-        );
-      }
+    round-trips : RoundTrips
+    round-trips =
+        record {
+          reading-what-was-written = written-read;
+          writing-what-was-read = read-written;
+          lists-of-a-plan = lists-hold;
+          plan-files-exactly = λ s. (
+            λ (b, f). record { plan = planOf s; ranges = f .ranges; bytes = sym (read-bytes s b f) },
+            λ o. rw (o .bytes) (bytes-bytes (o .plan), bytes-plan-file (o .plan) (o .ranges)),
+          );
+        }
