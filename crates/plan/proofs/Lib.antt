@@ -2,8 +2,10 @@ pub mod FileParts
 pub mod FirstRefusal
 pub mod RecordTurns
 pub mod Records
+pub mod Stretches
 pub mod TestsDecide
 pub mod SoundFile
+pub mod BytesOfPlans
 pub mod CaseB
 pub mod TestsMade
 pub mod Common
