@@ -6,19 +6,18 @@ use mathlib.Core.List.{List, [], _∷_, _++_, List·Memᴰ, List·Memᴰ·head, 
 use Prim.Native.Nat.{ℕ, _≤_}
 use lib.Dec.{eqb}
 use lib.ListN.{length}
-use lib.IntN.{ℤ}
 use lib.Signed.{leZ}
 use borrow.Author.Tests.{eqb-true}
 use Rattle.whole.proofs.Order.{ints}
 use Rattle.whole.proofs.Bits.{leZ-true}
-use Rattle.rules.specs.Plan.{Limit, Link, Plan, version1, LimitInRange, InRange}
+use Rattle.rules.specs.Plan.{Limit, Plan, version1, LimitInRange, InRange}
 use Rattle.rules.specs.declared.Answer.the-variants.{Done}
 use Rattle.rules.specs.Demands.{AllIn}
-use Rattle.fields.specs.Bytes.{AllBytes}
 use Rattle.plan.specs.Layout.{planOf, planBytes}
 use Rattle.plan.specs.File.{fileAnswer}
 use Rattle.plan.proofs.TestsMade.{both}
 use Rattle.plan.proofs.SoundFile.{good}
+use Rattle.plan.proofs.BytesOfPlans.{bytes-bytes, version1-narrow, bytes-read, bytes-sound}
 use Rattle.demands.specs.Demand3.{sameLimit, standsIn, different, SomeFile}
 
 -- ---- each repeat left out
@@ -68,36 +67,32 @@ none-new (x ∷ xs) m h = by (standsIn x xs) (none-new xs m) h
 
 -- ---- the file
 
-module _
-    (bytes-bytes : (p : Plan) → AllBytes (planBytes p))
-    (bytes-read : (p : Plan) → InRange version1 p → planOf (planBytes p) ≡ p)
-    (bytes-sound : (p : Plan) → InRange version1 p → fileAnswer (planBytes p) ≡ Done)
-  where
-    pub some-file : (s : List ℕ) (all : List Limit) → fileAnswer s ≡ Done
-        → ((m : Limit) → List·Memᴰ m all → LimitInRange version1 (planOf s .points) m)
-        → length (different (all ++ planOf s .limits)) ≤ version1 .limits → SomeFile s all
-    some-file s all e in-range few =
-        let both-limits : List Limit = all ++ planOf s .limits in
-        let p : Plan = record { points = planOf s .points; limits = different both-limits; links = planOf s .links } in
-        let g : InRange version1 (planOf s) = good s e .ranges in
-        let ranges : InRange version1 p = record {
-          some-point = g .some-point;
-          points = g .points;
-          limits = few;
-          links = g .links;
-          limit = λ m h. ⊎-elim (in-range m) (g .limit m) (List·Memᴰ·append-cases all (none-new both-limits m h));
-          link = g .link;
-          unshared = g .unshared;
-        } in
-        let read : planOf (planBytes p) ≡ p = bytes-read p ranges in
-        record {
-          file = planBytes p;
-          bytes = bytes-bytes p;
-          one = record {
-            sound = bytes-sound p ranges;
-            points = ap (λ (x : Plan). x .points) read;
-            links = ap (λ (x : Plan). x .links) read;
-            none-more = rw read (none-new both-limits);
-            none-less = rw read (none-lost both-limits);
-          };
-        }
+-- its plan is in range, so its bytes are sound and are read as that plan
+pub some-file : (s : List ℕ) (all : List Limit) → fileAnswer s ≡ Done
+    → ((m : Limit) → List·Memᴰ m all → LimitInRange version1 (planOf s .points) m)
+    → length (different (all ++ planOf s .limits)) ≤ version1 .limits → SomeFile s all
+some-file s all e in-range few =
+    let every : List Limit = all ++ planOf s .limits in
+    let p : Plan = record { points = planOf s .points; limits = different every; links = planOf s .links } in
+    let g : InRange version1 (planOf s) = good s e .ranges in
+    let ranges : InRange version1 p = record {
+      some-point = g .some-point;
+      points = g .points;
+      limits = few;
+      links = g .links;
+      limit = λ m h. ⊎-elim (in-range m) (g .limit m) (List·Memᴰ·append-cases all (none-new every m h));
+      link = g .link;
+      unshared = g .unshared;
+    } in
+    let read : planOf (planBytes p) ≡ p = bytes-read version1 version1-narrow p ranges in
+    record {
+      file = planBytes p;
+      bytes = bytes-bytes p;
+      one = record {
+        sound = bytes-sound p ranges;
+        points = ap (λ (x : Plan). x .points) read;
+        links = ap (λ (x : Plan). x .links) read;
+        none-more = rw read (none-new every);
+        none-less = rw read (none-lost every);
+      };
+    }

@@ -1,10 +1,9 @@
 -- The round trips: reading what was written gives the same plan, writing what was read gives the same bytes, lists hold every plan, and a plan
 -- file is exactly the bytes of a plan in range. Assumes nothing.
-use mathlib.Core.Path.{_≡_, refl, sym, ap, _∙_}
+use mathlib.Core.Path.{_≡_, refl, sym, ap, _∙_, fun-ext}
 use mathlib.Core.Bool.{true}
-use mathlib.Core.List.{List, [], _∷_, _++_, map}
-use Prim.Native.Nat.{ℕ, suc, _+_, _≤_}
-use native.Mathlib.Nat.{zero-add}
+use mathlib.Core.List.{List, _++_, map}
+use Prim.Native.Nat.{ℕ, _≤_}
 use native.Mathlib.Omega.{arith}
 use lib.Dec.{leb, eqb}
 use lib.ListN.{length, getD, take, drop, length-map, List·getD-map}
@@ -17,25 +16,19 @@ use Rattle.rules.specs.declared.Answer.the-variants.{Done, ShortRoom}
 use Rattle.answers.specs.Order.{unless}
 use Rattle.answers.proofs.CodeZero.{then-done, done-then, done-unless}
 use Rattle.fields.specs.Bytes.{AllBytes}
-use Rattle.plan.specs.Layout.{linkOffset, records, planOf, planBytes}
+use Rattle.plan.specs.Layout.{records, planOf}
 use Rattle.plan.specs.File.{planAnswer, fileAnswer, PlanFile}
 use Rattle.plan.proofs.Records.{records-length}
 use Rattle.plan.proofs.TestsMade.{and}
 use Rattle.plan.proofs.SoundFile.{sound-exactly}
+use Rattle.plan.proofs.Stretches.{stretch-all}
+use Rattle.plan.proofs.BytesOfPlans.{bytes-size, bytes-bytes, version1-narrow, bytes-read, bytes-plan-file, bytes-sound, read-bytes}
 use Rattle.writing.specs.Lists.{Lists, limitIn, linkIn, listedPlan, evenLists, Hold, listsOf}
 use Rattle.writing.specs.Wrote.{fileOf, writeAnswer, Wrote}
 use Rattle.writing.specs.RoundTrips.{Reads, sizeOf, RoundTrips}
 use Rattle.writing.proofs.PlanExactly.{plan-exactly}
 
 -- ---- lists of a plan
-
--- records that are a list's own elements, from index i on, are that list
-same-records : {A : Type 0} (f : ℕ → A) (d : A) (i : ℕ) (l : List A) → ((j : ℕ) → f (i + j) ≡ getD l j d) → records f i (length l) ≡ l
-same-records f d i [] h = refl
-same-records f d i (x ∷ l) h =
-    let first : f i ≡ x = ap f (omega arith) ∙ h 0 in
-    let rest : records f (suc i) (length l) ≡ l = same-records f d (suc i) l (λ j. ap f (omega arith) ∙ h (suc j)) in
-    cc
 
 -- two fields of the same records have lists of one length
 even-fields : {A B C : Type 0} (f : A → B) (g : A → C) (l : List A) → eqb (length (map f l)) (length (map g l)) ≡ true
@@ -48,14 +41,13 @@ limits-listed p =
     let l = listsOf p in
     let ms = p .limits in
     let none : Limit = record { from = 0; to = 0; weight = pos 0 } in
-    rw (length-map ms (λ (m : Limit). m .from))
-    (same-records (limitIn (l .from) (l .to) (l .weight)) none 0 ms
-    (λ j. rw (
-      zero-add j,
+    let each : (j : ℕ) → limitIn (l .from) (l .to) (l .weight) j ≡ getD ms j none =
+    λ j. rw (
       List·getD-map (λ (m : Limit). m .from) ms j none,
       List·getD-map (λ (m : Limit). m .to) ms j none,
       List·getD-map (λ (m : Limit). m .weight) ms j none,
-    )))
+    ) in
+    rw (length-map ms (λ (m : Limit). m .from)) (ap (λ (f : ℕ → Limit). records f 0 (length ms)) (fun-ext each) ∙ stretch-all none ms)
 
 links-listed : (p : Plan) → listedPlan (listsOf p) .links ≡ p .links
 unfolding linkIn listedPlan listsOf
@@ -63,15 +55,14 @@ links-listed p =
     let l = listsOf p in
     let ks = p .links in
     let none : Link = record { act = 0; con = 0; short = 0; long = 0 } in
-    rw (length-map ks (λ (k : Link). k .act))
-    (same-records (linkIn (l .act) (l .con) (l .short) (l .long)) none 0 ks
-    (λ j. rw (
-      zero-add j,
+    let each : (j : ℕ) → linkIn (l .act) (l .con) (l .short) (l .long) j ≡ getD ks j none =
+    λ j. rw (
       List·getD-map (λ (k : Link). k .act) ks j none,
       List·getD-map (λ (k : Link). k .con) ks j none,
       List·getD-map (λ (k : Link). k .short) ks j none,
       List·getD-map (λ (k : Link). k .long) ks j none,
-    )))
+    ) in
+    rw (length-map ks (λ (k : Link). k .act)) (ap (λ (f : ℕ → Link). records f 0 (length ks)) (fun-ext each) ∙ stretch-all none ks)
 
 lists-hold : (p : Plan) → Hold (listsOf p) p
 unfolding listedPlan listsOf
@@ -88,60 +79,54 @@ lists-hold p =
 
 -- ---- what is written
 
-module _
-    (bytes-size : (p : Plan) → length (planBytes p) ≡ linkOffset (length (p .limits)) (length (p .links)))
-    (bytes-bytes : (p : Plan) → AllBytes (planBytes p))
-    (bytes-read : (p : Plan) → InRange version1 p → planOf (planBytes p) ≡ p)
-    (bytes-plan-file : (p : Plan) → InRange version1 p → PlanFile (planBytes p))
-    (bytes-sound : (p : Plan) → InRange version1 p → fileAnswer (planBytes p) ≡ Done)
-    (read-bytes : (s : List ℕ) → AllBytes s → PlanFile s → planBytes (planOf s) ≡ s)
-  where
-    -- the file of lists is as long as their lengths say
-    file-size : (l : Lists) → length (fileOf l) ≡ sizeOf l
-    unfolding listedPlan
-    file-size l =
-        let m = records-length (limitIn (l .from) (l .to) (l .weight)) 0 (length (l .from)) in
-        let k = records-length (linkIn (l .act) (l .con) (l .short) (l .long)) 0 (length (l .act)) in
-        omega (arith, bytes-size (listedPlan l), m, k)
+-- the file of lists is as long as their lengths say
+file-size : (l : Lists) → length (fileOf l) ≡ sizeOf l
+unfolding listedPlan
+file-size l =
+    let m = records-length (limitIn (l .from) (l .to) (l .weight)) 0 (length (l .from)) in
+    let k = records-length (linkIn (l .act) (l .con) (l .short) (l .long)) 0 (length (l .act)) in
+    omega (arith, bytes-size (listedPlan l), m, k)
 
-    -- with 0 the lists are even and their plan is in range; and with those and room in the buffer it is 0
-    written-ranges : (l : Lists) (room : ℕ) → writeAnswer l room ≡ Done → (evenLists l ≡ true) × InRange version1 (listedPlan l)
-    unfolding writeAnswer
-    written-ranges l room e =
-        let laid = planAnswer version1 (evenLists l) (listedPlan l) in
-        plan-exactly version1 (evenLists l) (listedPlan l) .0 (then-done laid (unless (leb (length (fileOf l)) room) ShortRoom) e .0)
+-- with 0 the lists are even and their plan is in range; and with those and room in the buffer it is 0
+written-ranges : (l : Lists) (room : ℕ) → writeAnswer l room ≡ Done → (evenLists l ≡ true) × InRange version1 (listedPlan l)
+unfolding writeAnswer
+written-ranges l room e =
+    let laid = planAnswer version1 (evenLists l) (listedPlan l) in
+    plan-exactly version1 (evenLists l) (listedPlan l) .0 (then-done laid (unless (leb (length (fileOf l)) room) ShortRoom) e .0)
 
-    ranges-written : (l : Lists) (room : ℕ) → evenLists l ≡ true → InRange version1 (listedPlan l) → length (fileOf l) ≤ room → writeAnswer l room ≡ Done
-    unfolding writeAnswer
-    ranges-written l room e g h =
-        let fits = leb (length (fileOf l)) room in
-        done-then (planAnswer version1 (evenLists l) (listedPlan l)) (unless fits ShortRoom)
-        (plan-exactly version1 (evenLists l) (listedPlan l) .1 (e, g)) (done-unless fits ShortRoom (le-leb (length (fileOf l)) room h))
+ranges-written : (l : Lists) (room : ℕ) → evenLists l ≡ true → InRange version1 (listedPlan l) → length (fileOf l) ≤ room → writeAnswer l room ≡ Done
+unfolding writeAnswer
+ranges-written l room e g h =
+    let fits = leb (length (fileOf l)) room in
+    done-then (planAnswer version1 (evenLists l) (listedPlan l)) (unless fits ShortRoom)
+    (plan-exactly version1 (evenLists l) (listedPlan l) .1 (e, g)) (done-unless fits ShortRoom (le-leb (length (fileOf l)) room h))
 
-    written-read : (l : Lists) (before after : List ℕ) → Wrote l before Done after → Reads (take (sizeOf l) after) (listedPlan l)
-    written-read l before after w =
-        let p = listedPlan l in
-        let g : InRange version1 p = written-ranges l (length before) (sym (w .answer)) .1 in
-        rw (w .written refl, take-at (fileOf l) (drop (length (fileOf l)) before) (sizeOf l) (file-size l))
-        (record { sound = bytes-sound p g; plan = bytes-read p g })
+-- "Reading what was written gives the same plan"
+written-read : (l : Lists) (before after : List ℕ) → Wrote l before Done after → Reads (take (sizeOf l) after) (listedPlan l)
+written-read l before after w =
+    let p = listedPlan l in
+    let g : InRange version1 p = written-ranges l (length before) (sym (w .answer)) .1 in
+    rw (w .written refl, take-at (fileOf l) (drop (length (fileOf l)) before) (sizeOf l) (file-size l))
+    (record { sound = bytes-sound p g; plan = bytes-read version1 version1-narrow p g })
 
-    read-written : (s : List ℕ) → AllBytes s → fileAnswer s ≡ Done → (l : Lists) → Hold l (planOf s)
-        → (before : List ℕ) (a : Answer) (after : List ℕ) → length s ≤ length before → Wrote l before a after
-        → (a ≡ Done) × (after ≡ s ++ drop (length s) before)
-    read-written s b e l h before a after room w =
-        let f : PlanFile s = sound-exactly s .0 e in
-        let same : fileOf l ≡ s = rw (h .plan) (read-bytes s b f) in
-        let done : a ≡ Done = w .answer ∙ ranges-written l (length before) (h .even) (rw (h .plan) (f .ranges)) (rw same room) in
-        (done, rw same at (w .written done))
+-- "writing what was read gives the same bytes"
+read-written : (s : List ℕ) → AllBytes s → fileAnswer s ≡ Done → (l : Lists) → Hold l (planOf s)
+    → (before : List ℕ) (a : Answer) (after : List ℕ) → length s ≤ length before → Wrote l before a after
+    → (a ≡ Done) × (after ≡ s ++ drop (length s) before)
+read-written s b e l h before a after room w =
+    let f : PlanFile s = sound-exactly s .0 e in
+    let same : fileOf l ≡ s = rw (h .plan) (read-bytes s b f) in
+    let done : a ≡ Done = w .answer ∙ ranges-written l (length before) (h .even) (rw (h .plan) (f .ranges)) (rw same room) in
+    (done, rw same at (w .written done))
 
-    round-trips : RoundTrips
-    round-trips =
-        record {
-          reading-what-was-written = written-read;
-          writing-what-was-read = read-written;
-          lists-of-a-plan = lists-hold;
-          plan-files-exactly = λ s. (
-            λ (b, f). record { plan = planOf s; ranges = f .ranges; bytes = sym (read-bytes s b f) },
-            λ o. rw (o .bytes) (bytes-bytes (o .plan), bytes-plan-file (o .plan) (o .ranges)),
-          );
-        }
+pub round-trips : RoundTrips
+round-trips =
+    record {
+      reading-what-was-written = written-read;
+      writing-what-was-read = read-written;
+      lists-of-a-plan = lists-hold;
+      plan-files-exactly = λ s. (
+        λ (b, f). record { plan = planOf s; ranges = f .ranges; bytes = sym (read-bytes s b f) },
+        λ o. rw (o .bytes) (bytes-bytes (o .plan), bytes-plan-file (o .plan) (o .ranges)),
+      );
+    }
