@@ -2,6 +2,7 @@
 pub mod FileCodes
 pub mod Demand1
 pub mod Demand2
+pub mod OneFile
 pub mod Demand3
 pub mod Earliest
 pub mod Wrong

@@ -2,10 +2,13 @@
 -- refusal that changes nothing and stays. Assumes nothing.
 use mathlib.Core.Path.{_≡_}
 use mathlib.Core.Logic.{_≢_, _⊎_}
+use mathlib.Core.Bool.{Bool, false, _&&_, _||_, cond}
 use mathlib.Core.List.{List, [], _∷_, _++_, List·Memᴰ}
 use Prim.Native.Nat.{ℕ, zero, _≤_, _<_}
+use lib.Dec.{eqb}
 use lib.ListN.{length, getD}
 use lib.IntN.{ℤ, pos}
+use lib.Signed.{leZ}
 use Rattle.rules.specs.declared.Answer.{Answer}
 use Rattle.rules.specs.declared.Answer.the-variants.{Done, NotControllable, NotClosed}
 use Rattle.rules.specs.Plan.{Limit, LimitInRange, version1}
@@ -13,6 +16,7 @@ use Rattle.rules.specs.Walks.{Uncontrollable}
 use Rattle.rules.specs.Additions.{withLimits}
 use Rattle.rules.specs.Calls.{cellsOf, scratchOf, RoomForTables}
 use Rattle.rules.specs.Demands.{AllIn}
+use Rattle.fields.specs.Bytes.{AllBytes}
 use Rattle.plan.specs.Layout.{planOf}
 use Rattle.plan.specs.File.{fileAnswer}
 use Rattle.demands.specs.Programs.{AJudge, AnAdd}
@@ -36,6 +40,26 @@ pub record OneFile (s : List ℕ) (all : List Limit) (one : List ℕ) : Type 0 w
   pub links : planOf one .links ≡ planOf s .links
   pub none-more : AllIn (planOf one .limits) (all ++ planOf s .limits)
   pub none-less : AllIn (all ++ planOf s .limits) (planOf one .limits)
+
+-- whether two limits have the same from, to and weight
+abbrev pub sameLimit : Limit → Limit → Bool
+sameLimit m n = eqb (m .from) (n .from) && eqb (m .to) (n .to) && leZ (m .weight) (n .weight) && leZ (n .weight) (m .weight)
+
+-- whether a limit stands in a list
+abbrev pub standsIn : Limit → List Limit → Bool
+standsIn m [] = false
+standsIn m (n ∷ ns) = sameLimit m n || standsIn m ns
+
+-- limits with each repeat left out: one that stands again later in the list goes
+unfoldable pub different : List Limit → List Limit
+different [] = []
+different (m ∷ ms) = cond (standsIn m ms) (different ms) (m ∷ different ms)
+
+-- there is such a file
+pub record SomeFile (s : List ℕ) (all : List Limit) : Type 0 where
+  pub file : List ℕ
+  pub bytes : AllBytes file
+  pub one : OneFile s all file
 
 -- two tables are, cell for cell, those that Judge gives one file with all of them, whatever it is lent with room, and it gives them
 abbrev pub OneFilesTables : AJudge → List ℕ → List Limit → List ℤ → List ℤ → Type 0
@@ -64,6 +88,10 @@ pub record Demand3 (Judge : AJudge) (Add : AnAdd) : Type 0 where
   -- and whatever was refused besides, the end tables are those of one file with all that were taken
   pub end-tables : (s : List ℕ) (ts rs all : List Limit) (strict weak : List ℤ) → Desk Judge Add s ts rs strict weak → AllIn ts all → AllIn all ts
       → OneFilesTables Judge s all strict weak
+  -- one file with all of them exists, where those added are in range and with the file's own the different ones come to 1,024 at most
+  pub one-file : (s : List ℕ) (all : List Limit) → fileAnswer s ≡ Done
+      → ((m : Limit) → List·Memᴰ m all → LimitInRange version1 (planOf s .points) m)
+      → length (different (all ++ planOf s .limits)) ≤ version1 .limits → SomeFile s all
   -- if it is not controllable, every order that tries them all meets an 11
   pub some-refused : (s : List ℕ) (ts rs all : List Limit) (strict weak : List ℤ) → Desk Judge Add s ts rs strict weak
       → AllTried all ts rs → Uncontrollable (withLimits (planOf s) all) → rs ≢ []

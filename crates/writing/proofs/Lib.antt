@@ -1,2 +1,5 @@
 pub mod Common
 pub mod FieldsPut
+pub mod WroteOnce
+pub mod PlanExactly
+pub mod RoundTrips
