@@ -36,7 +36,7 @@ fields-length p =
     length-append (headPart p ++ flatMap limitFields (p .limits)) (flatMap linkFields (p .links))
     ∙ omega (arith, flat-length limitFields 3 (λ m. refl) (p .limits), flat-length linkFields 4 (λ k. refl) (p .links))
 
-words-length : (ws : List ℕ) → length (flatMap wordBytes ws) ≡ 4 * length ws
+pub words-length : (ws : List ℕ) → length (flatMap wordBytes ws) ≡ 4 * length ws
 unfolding wordBytes
 words-length ws = flat-length wordBytes 4 (λ w. refl) ws
 

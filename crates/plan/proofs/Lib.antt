@@ -4,6 +4,7 @@ pub mod RecordTurns
 pub mod Records
 pub mod Stretches
 pub mod TestsDecide
+pub mod PlanExactly
 pub mod SoundFile
 pub mod BytesOfPlans
 pub mod CaseB

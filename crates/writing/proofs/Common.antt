@@ -9,4 +9,4 @@ pub use mir.Syntax.{w32}
 pub use mir.ValLaws.{toZ-ofZ}
 unfoldable pub use Rattle.rules.specs.Plan.{version1}
 pub use Rattle.plan.specs.Layout.{earlier, records}
-unfoldable pub use Rattle.writing.specs.Lists.{limitIn, linkIn}
+unfoldable pub use Rattle.writing.specs.PlanLists.{limitIn, linkIn}

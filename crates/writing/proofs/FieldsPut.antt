@@ -2,16 +2,17 @@
 -- Assumes nothing.
 use mathlib.Core.Path.{_≡_, refl, sym, ap, _∙_}
 use mathlib.Core.List.{List, [], _∷_, _++_, flatMap, append-assoc, append-nil}
-use Prim.Native.Nat.{ℕ, zero, suc, _+_, _*_, _≤_}
+use Prim.Native.Nat.{ℕ, suc, _+_, _*_, _≤_}
 use native.Mathlib.Nat.{add-zero, zero-add}
-use native.Mathlib.Numerals.{add-one}
 use native.Mathlib.Omega.{arith}
-use lib.ListN.{length, take, drop, set, length-append}
+use lib.ListN.{length, drop, set}
 use lib.Seq.{sets, length-sets, sets-eq}
 use Rattle.fields.specs.Bytes.{wordBytes}
 use Rattle.rules.specs.Plan.{Limit, Link}
 use Rattle.plan.specs.Layout.{records, limitFields, linkFields}
 use Rattle.plan.proofs.Records.{records-length}
+use Rattle.plan.proofs.Stretches.{stretch-join, flat-length}
+use Rattle.plan.proofs.BytesOfPlans.{words-length}
 use Rattle.writing.specs.Puts.{putFields}
 
 -- ---- lists
@@ -25,18 +26,9 @@ pub flatMap-one : {A B : Type 0} (f : A → List B) (x : A) → flatMap f (x ∷
 unfolding flatMap
 flatMap-one f x = append-nil (f x)
 
--- lists of one length each, in one list
-pub flatMap-length : {A B : Type 0} (f : A → List B) (n : ℕ) → ((x : A) → length (f x) ≡ n) → (xs : List A) → length (flatMap f xs) ≡ n * length xs
-unfolding flatMap
-flatMap-length f n h [] = omega arith
-flatMap-length f n h (x ∷ xs) = length-append (f x) (flatMap f xs) ∙ omega (arith, h x, flatMap-length f n h xs)
-
 -- one record more
-pub records-last : {A : Type 0} (f : ℕ → A) (i n : ℕ) → records f i (suc n) ≡ records f i n ++ (f (i + n) ∷ [])
-records-last f i zero = ap (λ k. f k ∷ []) (sym (add-zero i))
-records-last f i (suc n) =
-    let e : suc i + n ≡ i + suc n = omega arith in
-    ap (λ r. f i ∷ r) (records-last f (suc i) n ∙ ap (λ k. records f (suc i) n ++ (f k ∷ [])) e)
+records-last : {A : Type 0} (f : ℕ → A) (n : ℕ) → records f 0 (n + 1) ≡ records f 0 n ++ (f n ∷ [])
+records-last f n = rw (zero-add n) at (sym (stretch-join f 0 n 1))
 
 -- a run of stores in two parts
 pub sets-append : {A : Type 0} (s : List A) (at : ℕ) (xs ys : List A) → sets (sets s at xs) (at + length xs) ys ≡ sets s at (xs ++ ys)
@@ -47,13 +39,6 @@ sets-append s at (x ∷ xs) ys =
 
 -- ---- fields
 
-word-length : (w : ℕ) → length (wordBytes w) ≡ 4
-unfolding wordBytes
-word-length w = refl
-
-pub fields-length : (ws : List ℕ) → length (flatMap wordBytes ws) ≡ 4 * length ws
-fields-length ws = flatMap-length wordBytes 4 word-length ws
-
 module _ (s : List ℕ) (at : ℕ) where
   pub none : s ≡ putFields s at []
   unfolding flatMap
@@ -63,7 +48,7 @@ module _ (s : List ℕ) (at : ℕ) where
   pub more : {t u : List ℕ} (ws vs : List ℕ) (next : ℕ) → t ≡ putFields s at ws → next ≡ at + 4 * length ws → u ≡ putFields t next vs
       → u ≡ putFields s at (ws ++ vs)
   more {t} {u} ws vs next p e q =
-      let n : next ≡ at + length (flatMap wordBytes ws) = omega (arith, fields-length ws) in
+      let n : next ≡ at + length (flatMap wordBytes ws) = omega (arith, words-length ws) in
       let r : u ≡ sets (putFields s at ws) (at + length (flatMap wordBytes ws)) (flatMap wordBytes vs) = rw (p, n) at q in
       r ∙ sets-append s at (flatMap wordBytes ws) (flatMap wordBytes vs) ∙ ap (sets s at) (sym (flatMap-append wordBytes ws vs))
 
@@ -115,12 +100,11 @@ module _ {A : Type 0} (fields : A → List ℕ) (f : ℕ → A) (s : List ℕ) (
       → u ≡ putFields t (at + 4 * c * i) (fields x) → RecordsPut fields f s at (i + 1) u
   record-next c l i {t} {u} {x} r e q =
       let done = flatMap fields (records f 0 i) in
-      let long : length done ≡ c * i = flatMap-length fields c l (records f 0 i) ∙ ap (λ k. c * k) (records-length f 0 i) in
+      let long : length done ≡ c * i = flat-length fields c l (records f 0 i) ∙ ap (λ k. c * k) (records-length f 0 i) in
       let last : flatMap fields (records f 0 (i + 1)) ≡ done ++ fields x =
-          ap (λ k. flatMap fields (records f 0 k)) (add-one i)
-          ∙ ap (flatMap fields) (records-last f 0 i)
-          ∙ flatMap-append fields (records f 0 i) (f (0 + i) ∷ [])
-          ∙ ap (λ r. done ++ r) (flatMap-one fields (f (0 + i)) ∙ ap (λ k. fields (f k)) (zero-add i) ∙ ap fields (sym e)) in
+          ap (flatMap fields) (records-last f i)
+          ∙ flatMap-append fields (records f 0 i) (f i ∷ [])
+          ∙ ap (λ r. done ++ r) (flatMap-one fields (f i) ∙ ap fields (sym e)) in
       record {
         put = more s at done (fields x) (at + 4 * c * i) (r .put) (omega (arith, long)) q ∙ ap (putFields s at) (sym last);
         same = ap length q ∙ put-length t (at + 4 * c * i) (fields x) ∙ r .same;

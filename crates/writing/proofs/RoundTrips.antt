@@ -23,10 +23,10 @@ use Rattle.plan.proofs.TestsMade.{and}
 use Rattle.plan.proofs.SoundFile.{sound-exactly}
 use Rattle.plan.proofs.Stretches.{stretch-all}
 use Rattle.plan.proofs.BytesOfPlans.{bytes-size, bytes-bytes, version1-narrow, bytes-read, bytes-plan-file, bytes-sound, read-bytes}
-use Rattle.writing.specs.Lists.{Lists, limitIn, linkIn, listedPlan, evenLists, Hold, listsOf}
+use Rattle.writing.specs.PlanLists.{Lists, limitIn, linkIn, listedPlan, evenLists, Hold, listsOf}
 use Rattle.writing.specs.Wrote.{fileOf, writeAnswer, Wrote}
 use Rattle.writing.specs.RoundTrips.{Reads, sizeOf, RoundTrips}
-use Rattle.writing.proofs.PlanExactly.{plan-exactly}
+use Rattle.plan.proofs.PlanExactly.{plan-exactly}
 
 -- ---- lists of a plan
 

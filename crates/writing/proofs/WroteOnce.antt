@@ -9,7 +9,7 @@ use Rattle.rules.specs.Answers.{codeOf}
 use Rattle.rules.specs.declared.Answer.{Answer}
 use Rattle.rules.specs.declared.Answer.the-variants.{Done}
 use Rattle.answers.proofs.CodeZero.{code-zero}
-use Rattle.writing.specs.Lists.{Lists}
+use Rattle.writing.specs.PlanLists.{Lists}
 use Rattle.writing.specs.Wrote.{Wrote}
 
 pub wrote-once : (l : Lists) (before : List ℕ) (a b : Answer) (after₁ after₂ : List ℕ) → Wrote l before a after₁ → Wrote l before b after₂

@@ -11,7 +11,7 @@ use Rattle.rules.specs.declared.Answer.the-variants.{Done}
 use Rattle.fields.specs.Bytes.{AllBytes}
 use Rattle.plan.specs.Layout.{linkOffset, planOf, planBytes}
 use Rattle.plan.specs.File.{fileAnswer, PlanFile}
-use Rattle.writing.specs.Lists.{Lists, listedPlan, Hold, listsOf}
+use Rattle.writing.specs.PlanLists.{Lists, listedPlan, Hold, listsOf}
 use Rattle.writing.specs.Wrote.{Wrote}
 
 -- what the reader makes of a list of bytes: a sound file, with this plan

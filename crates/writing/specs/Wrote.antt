@@ -12,7 +12,7 @@ use Rattle.rules.specs.declared.Answer.the-variants.{Done, ShortRoom}
 use Rattle.answers.specs.Order.{_then_, unless}
 use Rattle.plan.specs.Layout.{planBytes}
 use Rattle.plan.specs.File.{planAnswer}
-use Rattle.writing.specs.Lists.{Lists, listedPlan, evenLists}
+use Rattle.writing.specs.PlanLists.{Lists, listedPlan, evenLists}
 
 -- the file to be written: the bytes of the plan that the lists hold
 abbrev pub fileOf : Lists → List ℕ

@@ -6,7 +6,7 @@ ghost use mathlib.Core.Path.{_≡_};
 ghost use lib.ListN.{length};
 ghost use Rattle.rules.specs.Plan.{version1};
 ghost use Rattle.plan.specs.File.{planAnswer};
-ghost use Rattle.writing.specs.Lists.{listedPlan, evenLists};
+ghost use Rattle.writing.specs.PlanLists.{listedPlan, evenLists};
 ghost use Rattle.writing.specs.Wrote.{Wrote};
 use answers::accepted;
 use listed::limits;

@@ -9,7 +9,7 @@ ghost use Rattle.rules.specs.Plan.{version1};
 ghost use Rattle.plan.specs.Layout.{records, earlier};
 ghost use Rattle.plan.specs.Values.{limitOf, linkOf};
 ghost use Rattle.plan.specs.File.{fresh as File·fresh, limitsAnswer, linksAnswer, planAnswer};
-ghost use Rattle.writing.specs.Lists.{Lists, limitIn, linkIn, listedPlan, evenLists};
+ghost use Rattle.writing.specs.PlanLists.{Lists, limitIn, linkIn, listedPlan, evenLists};
 use answers::accepted;
 use plan::counts_answer;
 use plan::limit_fits;

@@ -6,7 +6,7 @@ ghost use lib.ListN.{length};
 ghost use Rattle.rules.specs.Plan.{version1};
 ghost use Rattle.plan.specs.Layout.{limitOffset, linkOffset, records, headFields, limitFields, linkFields};
 ghost use Rattle.plan.specs.Values.{limitOf, linkOf};
-ghost use Rattle.writing.specs.Lists.{limitIn, linkIn};
+ghost use Rattle.writing.specs.PlanLists.{limitIn, linkIn};
 ghost use Rattle.writing.specs.Puts.{putFields};
 use crate::listed::limit_in;
 use crate::listed::link_in;
