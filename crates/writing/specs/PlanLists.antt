@@ -21,6 +21,11 @@ pub record Lists : Type 0 where
   pub short : List ℕ
   pub long : List ℕ
 
+-- the lists by their names, in the order in which they are lent
+abbrev pub lists : ℕ → List ℕ → List ℕ → List ℤ → List ℕ → List ℕ → List ℕ → List ℕ → Lists
+lists n from to weight act con short long =
+    record { points = n; from = from; to = to; weight = weight; act = act; con = con; short = short; long = long }
+
 -- the limit at index i of three lists; past a list's end a field counts as 0
 unfoldable pub limitIn : List ℕ → List ℕ → List ℤ → ℕ → Limit
 limitIn from to weight i = record { from = getD from i 0; to = getD to i 0; weight = getD weight i (pos 0) }

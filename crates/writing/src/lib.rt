@@ -3,10 +3,11 @@ mod listed;
 mod puts;
 
 ghost use mathlib.Core.Path.{_≡_};
-ghost use lib.ListN.{length};
+ghost use mathlib.Core.Bool.{_&&_};
+ghost use lib.Dec.{eqb};
 ghost use Rattle.rules.specs.Plan.{version1};
 ghost use Rattle.plan.specs.File.{planAnswer};
-ghost use Rattle.writing.specs.PlanLists.{listedPlan, evenLists};
+ghost use Rattle.writing.specs.PlanLists.{lists, listedPlan, evenLists};
 ghost use Rattle.writing.specs.Wrote.{Wrote};
 use answers::accepted;
 use listed::limits;
@@ -16,3 +17,66 @@ use puts::put_head;
 use puts::put_limits;
 use puts::put_links;
 use rules::Answer;
+
+// Whether lists of these lengths are as long as the first of their kind.
+fn even(m: usize, to: usize, weight: usize, k: usize, con: usize, short: usize, long: usize) -> bool
+    ensures { λ r. ⌜ r ≡ (eqb to m && eqb weight m && eqb con k && eqb short k && eqb long k) ⌝ }
+{
+    (to == m) & (weight == m) & (con == k) & (short == k) & (long == k)
+}
+
+// Codes 3 to 8 of the plan that the lists hold.
+fn lists_answer(
+    n: u32,
+    from: &[u32],
+    to: &[u32],
+    weight: &[i32],
+    act: &[u32],
+    con: &[u32],
+    short: &[u32],
+    long: &[u32],
+) -> Answer
+    ensures { λ r. ⌜ r ≡ planAnswer version1 (evenLists (lists n (now (from .entry)) (now (to .entry)) (now (weight .entry)) (now (act .entry)) (now (con .entry)) (now (short .entry)) (now (long .entry)))) (listedPlan (lists n (now (from .entry)) (now (to .entry)) (now (weight .entry)) (now (act .entry)) (now (con .entry)) (now (short .entry)) (now (long .entry)))) ⌝ }
+{
+    let m = from.len();
+    let k = act.len();
+    let laid = even(m, to.len(), weight.len(), k, con.len(), short.len(), long.len());
+    let a = counts_answer(n, m, k, laid);
+    if !accepted(a) {
+        return a;
+    }
+    let b = limits(n, m as u32, from, to, weight);
+    if !accepted(b) {
+        return b;
+    }
+    links(n, k as u32, act, con, short, long)
+}
+
+// Write: the plan's file at the start of the buffer, or the buffer as it was.
+pub fn write(
+    n: u32,
+    from: &[u32],
+    to: &[u32],
+    weight: &[i32],
+    act: &[u32],
+    con: &[u32],
+    short: &[u32],
+    long: &[u32],
+    buffer: &mut [u8],
+) -> Answer
+    ensures { λ r. ⌜ Wrote (lists n (now (from .entry)) (now (to .entry)) (now (weight .entry)) (now (act .entry)) (now (con .entry)) (now (short .entry)) (now (long .entry))) (now (buffer .entry)) r (now (buffer .exit)) ⌝ }
+{
+    let a = lists_answer(n, from, to, weight, act, con, short, long);
+    if !accepted(a) {
+        return a;
+    }
+    let m = from.len();
+    let k = act.len();
+    if buffer.len() < 24 + 12 * m + 16 * k {
+        return Answer::ShortRoom;
+    }
+    put_head(buffer, n, m as u32, k as u32);
+    put_limits(buffer, m as u32, from, to, weight);
+    put_links(buffer, m as u32, k as u32, act, con, short, long);
+    Answer::Done
+}
