@@ -1,6 +1,6 @@
 -- The order of the answers: one after another, the first refusal stands. The laws take what the calls ensure as it comes: h is
 -- the header that was read, a and b are answers, t is what was said of whether a is no refusal. Assumes nothing.
-use mathlib.Core.Path.{_≡_, sym, _∙_}
+use mathlib.Core.Path.{_≡_, _∙_}
 use mathlib.Core.Bool.{Bool, true, false, not}
 use mathlib.Core.List.{List, []}
 use Prim.Native.Nat.{ℕ, _≤_, _<_}
@@ -11,10 +11,9 @@ use Rattle.rules.specs.Plan.{Limit, Ranges, version1}
 use Rattle.rules.specs.Answers.{codeOf}
 use Rattle.rules.specs.declared.Answer.{Answer}
 use Rattle.rules.specs.declared.Answer.the-variants.{Done, FewBytes, BadVersion, BadPoints, BadCounts, BadLayout, BadLimit}
-use Rattle.answers.specs.Order.{_then_}
 use Rattle.plan.specs.declared.Header.{Header}
 use Rattle.plan.specs.Layout.{headOf, limitAt, linkAt, records, planOf}
-use Rattle.plan.specs.File.{pointsFit, countsFit, laidOut, formAnswer, countsAnswer, limitFits, limitPlace, limitsAnswer, linksAnswer, fileFront, fileAnswer, addAnswer}
+use Rattle.plan.specs.File.{pointsFit, countsFit, laidOut, countsAnswer, limitFits, limitPlace, limitsAnswer, linksAnswer, fileFront, fileAnswer, addAnswer}
 use Rattle.plan.proofs.FileParts.{headAnswer, front-parts, file-parts}
 use Rattle.plan.proofs.TestsMade.{failed, passed}
 

@@ -4,7 +4,7 @@
 use mathlib.Core.Path.{_≡_, refl, sym, ap, _∙_}
 use mathlib.Core.Logic.{_↔_, _≢_}
 use mathlib.Core.Bool.{Bool, true, false, not, _&&_, true≢false}
-use mathlib.Core.List.{List, [], List·Memᴰ, List·Memᴰ·not-nil}
+use mathlib.Core.List.{List, List·Memᴰ}
 use Prim.Native.Nat.{ℕ, _*_, _≤_, _<_}
 use native.Mathlib.Nat.{zero-add}
 use native.Mathlib.Omega.{arith}
@@ -19,16 +19,17 @@ use Rattle.plan.specs.declared.Header.{Header}
 use Rattle.plan.specs.Layout.{headOf, limitOffset, linkOffset, limitAt, linkAt, planOf}
 use Rattle.answers.specs.Order.{_then_, unless}
 use Rattle.answers.proofs.CodeZero.{code-zero, then-done, done-then, unless-done, done-unless}
-use Rattle.plan.specs.File.{laidOut, countsAnswer, limitFits, limitPlace, backAnswer, fileFront, fileAnswer, addAnswer, PlanFile}
+use Rattle.plan.specs.File.{laidOut, formAnswer, limitFits, limitPlace, backAnswer, planAnswer, fileFront, fileAnswer, addAnswer, PlanFile}
 use Rattle.plan.proofs.TestsMade.{failed, passed, both, and}
-use Rattle.plan.proofs.FileParts.{headAnswer, to-limits, front-parts, file-parts}
+use Rattle.plan.proofs.FileParts.{file-parts}
 pub use Rattle.plan.proofs.FileParts.{limits-length, links-length, points-is}
 use Rattle.plan.proofs.Records.{Listed, record-in, in-records}
-use Rattle.plan.proofs.TestsDecide.{counts-ok, ok-counts, limit-ok, ok-limit, limits-ok, ok-limits, LinksOk, links-ok, ok-links}
+use Rattle.plan.proofs.TestsDecide.{limit-ok, ok-limit}
+use Rattle.plan.proofs.PlanExactly.{plan-exactly}
 
 -- ---- the header
 
--- what a Done answer to the header says of it
+-- what a Done answer to the file says of its header
 pub record HeadOk (size : ℕ) (h : Header) : Type 0 where
   pub room : 24 ≤ size
   pub version : h .version ≡ 1
@@ -40,79 +41,87 @@ pub record HeadOk (size : ℕ) (h : Header) : Type 0 where
   pub links-at : h .«links_at» ≡ limitOffset (h .limits)
   pub exact : size ≡ linkOffset (h .limits) (h .links)
 
-pub head-ok : (size : ℕ) (h : Header) → headAnswer size h ≡ Done → HeadOk size h
-head-ok size h e =
-    let one = leb 24 size in
-    let two = eqb (h .version) 1 in
-    let laid = laidOut size h in
-    let q = then-done (unless one FewBytes then unless two BadVersion) (countsAnswer version1 (h .points) (h .limits) (h .links) laid) e in
-    let p = then-done (unless one FewBytes) (unless two BadVersion) (q .0) in
-    let c = counts-ok version1 (h .points) (h .limits) (h .links) laid (q .1) in
-    let a = eqb (h .«limits_at») (limitOffset 0) in
-    let b = eqb (h .«links_at») (limitOffset (h .limits)) in
-    let l = both (a && b) (eqb size (linkOffset (h .limits) (h .links))) (c .as-laid) in
-    let o = both a b (l .0) in
-    record {
-      room = leb-true 24 size (unless-done one FewBytes refl (p .0));
-      version = eqb-true (h .version) 1 (unless-done two BadVersion refl (p .1));
-      some-point = c .some-point;
-      points = c .points;
-      limits = c .limits;
-      links = c .links;
-      limits-at = eqb-true (h .«limits_at») (limitOffset 0) (o .0);
-      links-at = eqb-true (h .«links_at») (limitOffset (h .limits)) (o .1);
-      exact = eqb-true size (linkOffset (h .limits) (h .links)) (l .1);
-    }
+-- 1 and 2 are not answered exactly where there are 24 bytes and the version is 1
+form-exactly : (size : ℕ) (h : Header) → (formAnswer size h ≡ Done) ↔ ((24 ≤ size) × (h .version ≡ 1))
+form-exactly size h = (there, back)
+  where
+    there : formAnswer size h ≡ Done → (24 ≤ size) × (h .version ≡ 1)
+    there e =
+        let p = then-done (unless (leb 24 size) FewBytes) (unless (eqb (h .version) 1) BadVersion) e in (
+          leb-true 24 size (unless-done (leb 24 size) FewBytes refl (p .0)),
+          eqb-true (h .version) 1 (unless-done (eqb (h .version) 1) BadVersion refl (p .1)),
+        )
 
-pub ok-head : (size : ℕ) (h : Header) → HeadOk size h → headAnswer size h ≡ Done
-ok-head size h g =
-    let o = and (eq-eqb (h .«limits_at») (limitOffset 0) (g .limits-at)) (eq-eqb (h .«links_at») (limitOffset (h .limits)) (g .links-at)) in
-    let l : laidOut size h ≡ true = and o (eq-eqb size (linkOffset (h .limits) (h .links)) (g .exact)) in
-    let c =
-        ok-counts version1 (h .points) (h .limits) (h .links) (laidOut size h)
-        (record { some-point = g .some-point; points = g .points; limits = g .limits; links = g .links; as-laid = l }) in
-    simp (le-leb 24 size (g .room), eq-eqb (h .version) 1 (g .version), c)
+    back : (24 ≤ size) × (h .version ≡ 1) → formAnswer size h ≡ Done
+    back (l, v) = simp (le-leb 24 size l, eq-eqb (h .version) 1 v)
+
+-- a header's offsets and the file's length
+pub record Laid (size : ℕ) (h : Header) : Type 0 where
+  pub limits-at : h .«limits_at» ≡ limitOffset 0
+  pub links-at : h .«links_at» ≡ limitOffset (h .limits)
+  pub exact : size ≡ linkOffset (h .limits) (h .links)
+
+laid-exactly : (size : ℕ) (h : Header) → (laidOut size h ≡ true) ↔ Laid size h
+laid-exactly size h = (there, back)
+  where
+    there : laidOut size h ≡ true → Laid size h
+    there e =
+        let a = eqb (h .«limits_at») (limitOffset 0) in
+        let b = eqb (h .«links_at») (limitOffset (h .limits)) in
+        let l = both (a && b) (eqb size (linkOffset (h .limits) (h .links))) e in
+        let o = both a b (l .0) in
+        record {
+          limits-at = eqb-true (h .«limits_at») (limitOffset 0) (o .0);
+          links-at = eqb-true (h .«links_at») (limitOffset (h .limits)) (o .1);
+          exact = eqb-true size (linkOffset (h .limits) (h .links)) (l .1);
+        }
+
+    back : Laid size h → laidOut size h ≡ true
+    back g =
+        let o = and (eq-eqb (h .«limits_at») (limitOffset 0) (g .limits-at)) (eq-eqb (h .«links_at») (limitOffset (h .limits)) (g .links-at)) in
+        and o (eq-eqb size (linkOffset (h .limits) (h .links)) (g .exact))
 
 -- ---- the whole file
 
--- the answer to a file's links
-abbrev to-links : List ℕ → Answer
-to-links s = backAnswer version1 (planOf s)
+-- Done exactly for a plan file
+pub sound-exactly : (s : List ℕ) → (fileAnswer s ≡ Done) ↔ PlanFile s
+unfolding fileAnswer
+sound-exactly s = (there, back)
+  where
+    size : ℕ
+    size = length s
 
--- a file's answer is Done exactly where the three parts are
-parts : (s : List ℕ)
-    → fileAnswer s ≡ Done
-    → (headAnswer (length s) (headOf s) ≡ Done) × (to-limits s ≡ Done) × (to-links s ≡ Done)
-parts s e =
-    let p = then-done (fileFront s) (to-links s) (rw file-parts at e) in
-    let q = then-done (headAnswer (length s) (headOf s)) (to-limits s) (rw front-parts at (p .0)) in
-    (q .0, q .1, p .1)
+    h : Header
+    h = headOf s
 
-joined : (s : List ℕ)
-    → headAnswer (length s) (headOf s) ≡ Done
-    → to-limits s ≡ Done
-    → to-links s ≡ Done
-    → fileAnswer s ≡ Done
-joined s a b c =
-    let front : fileFront s ≡ Done = rw front-parts (done-then (headAnswer (length s) (headOf s)) (to-limits s) a b) in
-    rw file-parts (done-then (fileFront s) (to-links s) front c)
+    form : Answer
+    form = formAnswer (length s) (headOf s)
 
--- every range of the paper, from the three parts
-in-range : (s : List ℕ)
-    → HeadOk (length s) (headOf s)
-    → ((m : Limit) → List·Memᴰ m (planOf s .limits) → LimitInRange version1 (planOf s .points) m)
-    → LinksOk version1 (planOf s .points) [] (planOf s .links)
-    → InRange version1 (planOf s)
-in-range s h l k =
-    record {
-      some-point = rw points-is (h .some-point);
-      points = rw points-is (h .points);
-      limits = rw limits-length (h .limits);
-      links = rw links-length (h .links);
-      limit = l;
-      link = k .each;
-      unshared = k .unshared;
-    }
+    plan : Answer
+    plan = planAnswer version1 (laidOut (length s) (headOf s)) (planOf s)
+
+    there : fileAnswer s ≡ Done → PlanFile s
+    there e =
+        let p = then-done form plan e in
+        let f = form-exactly size h .0 (p .0) in
+        let q = plan-exactly version1 (laidOut size h) (planOf s) .0 (p .1) in
+        let l = laid-exactly size h .0 (q .0) in
+        record {
+          header = f .0;
+          version = f .1;
+          limits-at = l .limits-at;
+          links-at = l .links-at;
+          size = l .exact;
+          ranges = q .1;
+        }
+
+    back : PlanFile s → fileAnswer s ≡ Done
+    back f =
+        done-then form plan (form-exactly size h .1 (f .header, f .version))
+        (plan-exactly version1 (laidOut size h) (planOf s) .1 (
+          laid-exactly size h .1 (record { limits-at = f .limits-at; links-at = f .links-at; exact = f .size }),
+          f .ranges,
+        ))
 
 -- What a sound file gives.
 pub record Good (s : List ℕ) : Type 0 where
@@ -133,15 +142,22 @@ pub record Good (s : List ℕ) : Type 0 where
 pub good : (s : List ℕ) → fileAnswer s ≡ Done → Good s
 unfolding planOf
 good s e =
-    let p = parts s e in
-    let h = head-ok (length s) (headOf s) (p .0) in
-    let limits = limits-ok version1 (planOf s .points) 0 (planOf s .limits) (p .1) in
-    let links = links-ok version1 (planOf s .points) 0 [] (planOf s .links) (p .2) in
+    let f = sound-exactly s .0 e in
     let m = headOf s .limits in
     let k = headOf s .links in
     record {
-      head = h;
-      ranges = in-range s h limits links;
+      head = record {
+        room = f .header;
+        version = f .version;
+        some-point = f .ranges .some-point;
+        points = f .ranges .points;
+        limits = rw limits-length at (f .ranges .limits);
+        links = rw links-length at (f .ranges .links);
+        limits-at = f .limits-at;
+        links-at = f .links-at;
+        exact = f .size;
+      };
+      ranges = f .ranges;
       points = points-is s;
       limits = limits-length s;
       links = links-length s;
@@ -150,42 +166,6 @@ good s e =
       link-in = λ i l. record-in (linkAt s m) 0 k i (omega arith) (omega arith);
       link-is = λ x l. rw (zero-add k) at (in-records (linkAt s m) 0 k x l);
     }
-
--- ---- Done exactly for a plan file
-
-pub sound-exactly : (s : List ℕ) → (fileAnswer s ≡ Done) ↔ PlanFile s
-sound-exactly s = (there, back)
-  where
-    there : fileAnswer s ≡ Done → PlanFile s
-    there e =
-        let g = good s e in
-        record {
-          header = g .head .room;
-          version = g .head .version;
-          limits-at = g .head .limits-at;
-          links-at = g .head .links-at;
-          size = g .head .exact;
-          ranges = g .ranges;
-        }
-
-    back : PlanFile s → fileAnswer s ≡ Done
-    back f =
-        joined s
-        (ok-head (length s) (headOf s)
-        (record {
-          room = f .header;
-          version = f .version;
-          some-point = rw points-is at (f .ranges .some-point);
-          points = rw points-is at (f .ranges .points);
-          limits = rw limits-length at (f .ranges .limits);
-          links = rw links-length at (f .ranges .links);
-          limits-at = f .limits-at;
-          links-at = f .links-at;
-          exact = f .size;
-        }))
-        (ok-limits version1 (planOf s .points) 0 (planOf s .limits) (f .ranges .limit))
-        (ok-links version1 (planOf s .points) 0 [] (planOf s .links)
-        (record { each = f .ranges .link; apart = λ k h j n. absurd (List·Memᴰ·not-nil n); unshared = f .ranges .unshared }))
 
 -- ---- with Add's limit
 
@@ -202,17 +182,17 @@ add-exactly s added = (there, back)
 
     there : addAnswer s added ≡ Done → (fileAnswer s ≡ Done) × LimitInRange version1 (planOf s .points) added
     there e =
-        let p = then-done (fileFront s) (unless fits refusal then to-links s) e in
-        let q = then-done (unless fits refusal) (to-links s) (p .1) in (
-          rw file-parts (done-then (fileFront s) (to-links s) (p .0) (q .1)),
+        let p = then-done (fileFront s) (unless fits refusal then backAnswer version1 (planOf s)) e in
+        let q = then-done (unless fits refusal) (backAnswer version1 (planOf s)) (p .1) in (
+          rw file-parts (done-then (fileFront s) (backAnswer version1 (planOf s)) (p .0) (q .1)),
           limit-ok version1 (planOf s .points) added (unless-done fits refusal refl (q .0)),
         )
 
     back : (fileAnswer s ≡ Done) × LimitInRange version1 (planOf s .points) added → addAnswer s added ≡ Done
     back g =
-        let p = then-done (fileFront s) (to-links s) (rw file-parts at (g .0)) in
+        let p = then-done (fileFront s) (backAnswer version1 (planOf s)) (rw file-parts at (g .0)) in
         let own = done-unless fits refusal (ok-limit version1 (planOf s .points) added (g .1)) in
-        done-then (fileFront s) (unless fits refusal then to-links s) (p .0) (done-then (unless fits refusal) (to-links s) own (p .1))
+        done-then (fileFront s) (unless fits refusal then backAnswer version1 (planOf s)) (p .0) (done-then (unless fits refusal) (backAnswer version1 (planOf s)) own (p .1))
 
 -- ---- from what the calls ensure: a is what `sound` or `sound_with` answered, t what `accepted` said of it
 

@@ -1,24 +1,15 @@
 // The calls as C calls them (include/post.h). An answer passes as one 64-bit number.
-ghost use mathlib.Core.Path.{_≡_};
 ghost use Rattle.rules.specs.Plan.{version1};
 ghost use Rattle.rules.specs.Calls.{Judged, Checked, Timed, Added};
 ghost use Rattle.plan.specs.Layout.{planOf};
 ghost use Rattle.plan.specs.File.{fileAnswer, addAnswer};
-ghost use Rattle.post.specs.Faces.{packedOf, Packed, PackedAdd};
+ghost use Rattle.answers.specs.Packed.{Packed};
+ghost use Rattle.post.specs.Faces.{PackedAdd};
 use crate::check;
 use crate::judging::judge;
 use crate::timing::earliest;
 use adding::add;
-use answers::code;
-use answers::place;
-use rules::Answer;
-
-// The number of an answer: the code in the low 32 bits, the place in the high 32.
-pub fn packed(a: Answer) -> u64
-    ensures { λ r. ⌜ r ≡ packedOf a ⌝ }
-{
-    (code(a) as u64) + 4294967296 * (place(a) as u64)
-}
+use answers::packed;
 
 // Check.
 #[no_mangle]

@@ -22,6 +22,8 @@ use plan::sound;
 use rules::Answer;
 pub use rules::Side;
 pub use timing::earliest;
+pub use writing::post_write;
+pub use writing::write;
 
 // Check: whether two tables are closed for a plan file. It writes nothing.
 pub fn check(file: &[u8], strict: &[i32], open: &[i32]) -> Answer

@@ -17,12 +17,12 @@ use Rattle.writing.specs.Puts.{putFields}
 
 -- ---- lists
 
-pub flatMap-append : {A B : Type 0} (f : A → List B) (xs ys : List A) → flatMap f (xs ++ ys) ≡ flatMap f xs ++ flatMap f ys
+flatMap-append : {A B : Type 0} (f : A → List B) (xs ys : List A) → flatMap f (xs ++ ys) ≡ flatMap f xs ++ flatMap f ys
 unfolding flatMap
 flatMap-append f [] ys = refl
 flatMap-append f (x ∷ xs) ys = ap (λ r. f x ++ r) (flatMap-append f xs ys) ∙ sym (append-assoc (f x) (flatMap f xs) (flatMap f ys))
 
-pub flatMap-one : {A B : Type 0} (f : A → List B) (x : A) → flatMap f (x ∷ []) ≡ f x
+flatMap-one : {A B : Type 0} (f : A → List B) (x : A) → flatMap f (x ∷ []) ≡ f x
 unfolding flatMap
 flatMap-one f x = append-nil (f x)
 
@@ -31,7 +31,7 @@ records-last : {A : Type 0} (f : ℕ → A) (n : ℕ) → records f 0 (n + 1) �
 records-last f n = rw (zero-add n) at (sym (stretch-join f 0 n 1))
 
 -- a run of stores in two parts
-pub sets-append : {A : Type 0} (s : List A) (at : ℕ) (xs ys : List A) → sets (sets s at xs) (at + length xs) ys ≡ sets s at (xs ++ ys)
+sets-append : {A : Type 0} (s : List A) (at : ℕ) (xs ys : List A) → sets (sets s at xs) (at + length xs) ys ≡ sets s at (xs ++ ys)
 sets-append s at [] ys = ap (λ k. sets s k ys) (add-zero at)
 sets-append s at (x ∷ xs) ys =
     let e : at + suc (length xs) ≡ suc at + length xs = omega arith in
@@ -39,8 +39,9 @@ sets-append s at (x ∷ xs) ys =
 
 -- ---- fields
 
+-- bytes from a position on
 module _ (s : List ℕ) (at : ℕ) where
-  pub none : s ≡ putFields s at []
+  none : s ≡ putFields s at []
   unfolding flatMap
   none = refl
 
@@ -53,7 +54,7 @@ module _ (s : List ℕ) (at : ℕ) where
       r ∙ sets-append s at (flatMap wordBytes ws) (flatMap wordBytes vs) ∙ ap (sets s at) (sym (flatMap-append wordBytes ws vs))
 
   -- one field after fields
-  pub next : {t u : List ℕ} (ws : List ℕ) (w n : ℕ) → t ≡ putFields s at ws → n ≡ at + 4 * length ws → u ≡ sets t n (wordBytes w)
+  next : {t u : List ℕ} (ws : List ℕ) (w n : ℕ) → t ≡ putFields s at ws → n ≡ at + 4 * length ws → u ≡ sets t n (wordBytes w)
       → u ≡ putFields s at (ws ++ (w ∷ []))
   next {t} ws w n p e q = more ws (w ∷ []) n p e (q ∙ ap (sets t n) (sym (flatMap-one wordBytes w)))
 
@@ -72,7 +73,7 @@ pub three-more : (s : List ℕ) (a b c d e f : ℕ) {t u : List ℕ} → t ≡ p
 three-more s a b c d e f p q = more s 0 (a ∷ b ∷ c ∷ []) (d ∷ e ∷ f ∷ []) 12 p (omega arith) q
 
 -- the length stays
-pub put-length : (s : List ℕ) (at : ℕ) (ws : List ℕ) → length (putFields s at ws) ≡ length s
+put-length : (s : List ℕ) (at : ℕ) (ws : List ℕ) → length (putFields s at ws) ≡ length s
 put-length s at ws = length-sets s at (flatMap wordBytes ws)
 
 -- fields from the start on, where there is room: their bytes, and then what was there
@@ -102,9 +103,9 @@ module _ {A : Type 0} (fields : A → List ℕ) (f : ℕ → A) (s : List ℕ) (
       let done = flatMap fields (records f 0 i) in
       let long : length done ≡ c * i = flat-length fields c l (records f 0 i) ∙ ap (λ k. c * k) (records-length f 0 i) in
       let last : flatMap fields (records f 0 (i + 1)) ≡ done ++ fields x =
-          ap (flatMap fields) (records-last f i)
-          ∙ flatMap-append fields (records f 0 i) (f i ∷ [])
-          ∙ ap (λ r. done ++ r) (flatMap-one fields (f i) ∙ ap fields (sym e)) in
+      ap (flatMap fields) (records-last f i)
+      ∙ flatMap-append fields (records f 0 i) (f i ∷ [])
+      ∙ ap (λ r. done ++ r) (flatMap-one fields (f i) ∙ ap fields (sym e)) in
       record {
         put = more s at done (fields x) (at + 4 * c * i) (r .put) (omega (arith, long)) q ∙ ap (putFields s at) (sym last);
         same = ap length q ∙ put-length t (at + 4 * c * i) (fields x) ∙ r .same;
@@ -119,8 +120,8 @@ pub link-next : (f : ℕ → Link) (s : List ℕ) (at i : ℕ) {t u : List ℕ} 
 link-next f s at i r e q = record-next linkFields f s at 4 (λ y. refl) i r e q
 
 -- all of them
-pub all-put : {A : Type 0} (fields : A → List ℕ) (f : ℕ → A) (s : List ℕ) (at n i : ℕ) {t : List ℕ} → RecordsPut fields f s at i t → i ≤ n → n ≤ i
-    → t ≡ putFields s at (flatMap fields (records f 0 n))
+pub all-put : {A : Type 0} (fields : A → List ℕ) (f : ℕ → A) (s : List ℕ) (at n i : ℕ) {t : List ℕ} → RecordsPut fields f s at i t
+    → i ≤ n → n ≤ i → t ≡ putFields s at (flatMap fields (records f 0 n))
 all-put fields f s at n i r h k =
     let e : i ≡ n = omega arith in
     rw (← e) (r .put)

@@ -4,7 +4,6 @@ use mathlib.Core.Path.{_≡_, refl, sym, ap, _∙_, fun-ext}
 use mathlib.Core.Bool.{true}
 use mathlib.Core.List.{List, _++_, map}
 use Prim.Native.Nat.{ℕ, _≤_}
-use native.Mathlib.Omega.{arith}
 use lib.Dec.{leb, eqb}
 use lib.ListN.{length, getD, take, drop, length-map, List·getD-map}
 use lib.Seq.{take-at}
@@ -18,15 +17,15 @@ use Rattle.answers.proofs.CodeZero.{then-done, done-then, done-unless}
 use Rattle.fields.specs.Bytes.{AllBytes}
 use Rattle.plan.specs.Layout.{records, planOf}
 use Rattle.plan.specs.File.{planAnswer, fileAnswer, PlanFile}
-use Rattle.plan.proofs.Records.{records-length}
 use Rattle.plan.proofs.TestsMade.{and}
 use Rattle.plan.proofs.SoundFile.{sound-exactly}
 use Rattle.plan.proofs.Stretches.{stretch-all}
-use Rattle.plan.proofs.BytesOfPlans.{bytes-size, bytes-bytes, version1-narrow, bytes-read, bytes-plan-file, bytes-sound, read-bytes}
+use Rattle.plan.proofs.BytesOfPlans.{bytes-bytes, version1-narrow, bytes-read, bytes-plan-file, bytes-sound, read-bytes}
 use Rattle.writing.specs.PlanLists.{Lists, limitIn, linkIn, listedPlan, evenLists, Hold, listsOf}
 use Rattle.writing.specs.Wrote.{fileOf, writeAnswer, Wrote}
 use Rattle.writing.specs.RoundTrips.{Reads, sizeOf, RoundTrips}
 use Rattle.plan.proofs.PlanExactly.{plan-exactly}
+use Rattle.writing.proofs.WriteAnswers.{file-size}
 
 -- ---- lists of a plan
 
@@ -78,14 +77,6 @@ lists-hold p =
     }
 
 -- ---- what is written
-
--- the file of lists is as long as their lengths say
-file-size : (l : Lists) → length (fileOf l) ≡ sizeOf l
-unfolding listedPlan
-file-size l =
-    let m = records-length (limitIn (l .from) (l .to) (l .weight)) 0 (length (l .from)) in
-    let k = records-length (linkIn (l .act) (l .con) (l .short) (l .long)) 0 (length (l .act)) in
-    omega (arith, bytes-size (listedPlan l), m, k)
 
 -- with 0 the lists are even and their plan is in range; and with those and room in the buffer it is 0
 written-ranges : (l : Lists) (room : ℕ) → writeAnswer l room ≡ Done → (evenLists l ≡ true) × InRange version1 (listedPlan l)

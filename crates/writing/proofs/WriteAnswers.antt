@@ -15,9 +15,8 @@ use Rattle.rules.specs.declared.Answer.{Answer}
 use Rattle.rules.specs.declared.Answer.the-variants.{Done, ShortRoom}
 use Rattle.answers.specs.Order.{_then_, unless}
 use Rattle.answers.proofs.CodeZero.{then-done}
-use Rattle.fields.specs.Bytes.{wordBytes}
 use Rattle.plan.specs.Layout.{limitOffset, linkOffset, records, headFields, limitFields, linkFields, planFields, planBytes}
-use Rattle.plan.specs.File.{countsAnswer, limitsAnswer, linksAnswer, frontAnswer, backAnswer, planAnswer}
+use Rattle.plan.specs.File.{countsAnswer, limitsAnswer, linksAnswer, frontAnswer, planAnswer}
 use Rattle.plan.proofs.Records.{records-length}
 use Rattle.plan.proofs.TestsMade.{failed, passed, both}
 use Rattle.plan.proofs.TestsDecide.{counts-ok}
@@ -25,7 +24,7 @@ use Rattle.plan.proofs.SoundFile.{is-accepted, not-accepted}
 use Rattle.plan.proofs.Stretches.{flat-length}
 use Rattle.plan.proofs.BytesOfPlans.{bytes-size}
 use Rattle.writing.specs.PlanLists.{Lists, limitIn, linkIn, listedPlan, evenLists}
-use Rattle.writing.specs.Puts.{putFields}
+use Rattle.writing.specs.Puts.{ListsOk, putFields}
 use Rattle.writing.specs.Wrote.{fileOf, writeAnswer, Wrote}
 use Rattle.writing.proofs.FieldsPut.{more, put-start}
 
@@ -34,16 +33,6 @@ use Rattle.writing.proofs.FieldsPut.{more, put-start}
 -- the answer to the plan that lists hold
 abbrev pub listsAnswer : Lists → Answer
 listsAnswer l = planAnswer version1 (evenLists l) (listedPlan l)
-
--- what is known of lists once n, m, k and the lengths have passed
-pub record ListsOk (l : Lists) : Type 0 where
-  pub limits : length (l .from) ≤ version1 .limits
-  pub links : length (l .act) ≤ version1 .links
-  pub to : length (l .to) ≡ length (l .from)
-  pub weight : length (l .weight) ≡ length (l .from)
-  pub con : length (l .con) ≡ length (l .act)
-  pub short : length (l .short) ≡ length (l .act)
-  pub long : length (l .long) ≡ length (l .act)
 
 module _ (l : Lists) where
   n : ℕ
@@ -136,7 +125,7 @@ file-size l =
     omega (arith, bytes-size (listedPlan l), m, k)
 
 -- header, limits and links, one after the other from the start on: the file, and then what was there
-laid-down : (l : Lists) (before : List ℕ) → linkOffset (length (l .from)) (length (l .act)) ≤ length before → {t₁ t₂ t₃ : List ℕ}
+pub laid-down : (l : Lists) (before : List ℕ) → linkOffset (length (l .from)) (length (l .act)) ≤ length before → {t₁ t₂ t₃ : List ℕ}
     → t₁ ≡ putFields before 0 (headFields (l .points) (length (l .from)) (length (l .act)))
     → t₂ ≡ putFields t₁ (limitOffset 0) (flatMap limitFields (records (limitIn (l .from) (l .to) (l .weight)) 0 (length (l .from))))
     → t₃ ≡ putFields t₂ (limitOffset (length (l .from))) (flatMap linkFields (records (linkIn (l .act) (l .con) (l .short) (l .long)) 0 (length (l .act))))
@@ -145,15 +134,17 @@ unfolding planBytes planFields listedPlan
 laid-down l before room q r s =
     let m = length (l .from) in
     let k = length (l .act) in
-    let limits = records (limitIn (l .from) (l .to) (l .weight)) 0 m in
-    let links = records (linkIn (l .act) (l .con) (l .short) (l .long)) 0 k in
-    let some = records-length (limitIn (l .from) (l .to) (l .weight)) 0 m in
+    let f = limitIn (l .from) (l .to) (l .weight) in
+    let g = linkIn (l .act) (l .con) (l .short) (l .long) in
     let head = headFields (l .points) m k in
-    let front = head ++ flatMap limitFields limits in
-    let size : length front ≡ 6 + 3 * m = length-append head (flatMap limitFields limits) ∙ omega (arith, flat-length limitFields 3 (λ x. refl) limits, some) in
-    let all = more before 0 front (flatMap linkFields links) (limitOffset m) (more before 0 head (flatMap limitFields limits) 24 q (omega arith) r) (omega (arith, size)) s in
-    let same : planFields (listedPlan l) ≡ front ++ flatMap linkFields links = rw (some, records-length (linkIn (l .act) (l .con) (l .short) (l .long)) 0 k) in
-    all ∙ ap (putFields before 0) (sym same) ∙ put-start before (planFields (listedPlan l)) (omega (arith, file-size l))
+    let limits = flatMap limitFields (records f 0 m) in
+    let links = flatMap linkFields (records g 0 k) in
+    let size : length (head ++ limits) ≡ 6 + 3 * m =
+    length-append head limits ∙ omega (arith, flat-length limitFields 3 (λ x. refl) (records f 0 m), records-length f 0 m) in
+    let same : planFields (listedPlan l) ≡ head ++ limits ++ links = rw (records-length f 0 m, records-length g 0 k) in
+    more before 0 (head ++ limits) links (limitOffset m) (more before 0 head limits 24 q (omega arith) r) (omega (arith, size)) s
+    ∙ ap (putFields before 0) (sym same)
+    ∙ put-start before (planFields (listedPlan l)) (omega (arith, file-size l))
 
 module _ (l : Lists) (before : List ℕ) {a : Answer} (p : a ≡ listsAnswer l) {t : Bool} (e : t ≡ eqb (codeOf a) 0) where
   pub refused : not t ≡ true → Wrote l before a before
@@ -179,14 +170,11 @@ module _ (l : Lists) (before : List ℕ) {a : Answer} (p : a ≡ listsAnswer l) 
           refused = λ d. refl;
         }
 
-    pub wrote : linkOffset (length (l .from)) (length (l .act)) ≤ length before → {t₁ t₂ t₃ : List ℕ}
-        → t₁ ≡ putFields before 0 (headFields (l .points) (length (l .from)) (length (l .act)))
-        → t₂ ≡ putFields t₁ (limitOffset 0) (flatMap limitFields (records (limitIn (l .from) (l .to) (l .weight)) 0 (length (l .from))))
-        → t₃ ≡ putFields t₂ (limitOffset (length (l .from))) (flatMap linkFields (records (linkIn (l .act) (l .con) (l .short) (l .long)) 0 (length (l .act))))
-        → Wrote l before Done t₃
-    wrote room q r s =
+    pub wrote : linkOffset (length (l .from)) (length (l .act)) ≤ length before → {after : List ℕ}
+        → after ≡ fileOf l ++ drop (length (fileOf l)) before → Wrote l before Done after
+    wrote room q =
         record {
           answer = sym (fits true (le-leb (length (fileOf l)) (length before) (omega (arith, file-size l))));
-          written = λ d. laid-down l before room q r s;
+          written = λ d. q;
           refused = λ d. absurd (d refl);
         }

@@ -1,15 +1,22 @@
 // Plans written: a plan whose fields are lent as lists, into a lent buffer.
+mod faces;
 mod listed;
 mod puts;
 
 ghost use mathlib.Core.Path.{_≡_};
 ghost use mathlib.Core.Bool.{_&&_};
+ghost use mathlib.Core.List.{_++_};
+ghost use Prim.Native.Nat.{_≤_};
 ghost use lib.Dec.{eqb};
+ghost use lib.ListN.{length, drop};
 ghost use Rattle.rules.specs.Plan.{version1};
+ghost use Rattle.plan.specs.Layout.{linkOffset};
 ghost use Rattle.plan.specs.File.{planAnswer};
 ghost use Rattle.writing.specs.PlanLists.{lists, listedPlan, evenLists};
-ghost use Rattle.writing.specs.Wrote.{Wrote};
+ghost use Rattle.writing.specs.Puts.{ListsOk};
+ghost use Rattle.writing.specs.Wrote.{fileOf, Wrote};
 use answers::accepted;
+pub use faces::post_write;
 use listed::limits;
 use listed::links;
 use plan::counts_answer;
@@ -40,7 +47,15 @@ fn lists_answer(
 {
     let m = from.len();
     let k = act.len();
-    let laid = even(m, to.len(), weight.len(), k, con.len(), short.len(), long.len());
+    let laid = even(
+        m,
+        to.len(),
+        weight.len(),
+        k,
+        con.len(),
+        short.len(),
+        long.len(),
+    );
     let a = counts_answer(n, m, k, laid);
     if !accepted(a) {
         return a;
@@ -50,6 +65,28 @@ fn lists_answer(
         return b;
     }
     links(n, k as u32, act, con, short, long)
+}
+
+// The file at the start of a buffer that has room for it.
+fn lay_down(
+    n: u32,
+    from: &[u32],
+    to: &[u32],
+    weight: &[i32],
+    act: &[u32],
+    con: &[u32],
+    short: &[u32],
+    long: &[u32],
+    buffer: &mut [u8],
+)
+    requires { ⌜ ListsOk (lists n (now from) (now to) (now weight) (now act) (now con) (now short) (now long)) × (linkOffset (length (now from)) (length (now act)) ≤ length (now buffer)) ⌝ }
+    ensures { λ r. ⌜ now (buffer .exit) ≡ fileOf (lists n (now (from .entry)) (now (to .entry)) (now (weight .entry)) (now (act .entry)) (now (con .entry)) (now (short .entry)) (now (long .entry))) ++ drop (length (fileOf (lists n (now (from .entry)) (now (to .entry)) (now (weight .entry)) (now (act .entry)) (now (con .entry)) (now (short .entry)) (now (long .entry))))) (now (buffer .entry)) ⌝ }
+{
+    let m = from.len() as u32;
+    let k = act.len() as u32;
+    put_head(buffer, n, m, k);
+    put_limits(buffer, m, from, to, weight);
+    put_links(buffer, m, k, act, con, short, long);
 }
 
 // Write: the plan's file at the start of the buffer, or the buffer as it was.
@@ -66,17 +103,13 @@ pub fn write(
 ) -> Answer
     ensures { λ r. ⌜ Wrote (lists n (now (from .entry)) (now (to .entry)) (now (weight .entry)) (now (act .entry)) (now (con .entry)) (now (short .entry)) (now (long .entry))) (now (buffer .entry)) r (now (buffer .exit)) ⌝ }
 {
-    let a = lists_answer(n, from, to, weight, act, con, short, long);
-    if !accepted(a) {
-        return a;
+    let answer = lists_answer(n, from, to, weight, act, con, short, long);
+    if !accepted(answer) {
+        return answer;
     }
-    let m = from.len();
-    let k = act.len();
-    if buffer.len() < 24 + 12 * m + 16 * k {
+    if buffer.len() < 24 + 12 * from.len() + 16 * act.len() {
         return Answer::ShortRoom;
     }
-    put_head(buffer, n, m as u32, k as u32);
-    put_limits(buffer, m as u32, from, to, weight);
-    put_links(buffer, m as u32, k as u32, act, con, short, long);
+    lay_down(n, from, to, weight, act, con, short, long, buffer);
     Answer::Done
 }

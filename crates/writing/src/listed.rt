@@ -1,21 +1,17 @@
 // Limit i and link i of lent lists; codes 3 to 8 of the plan that the lists hold.
 ghost use mathlib.Core.Path.{_≡_};
-ghost use mathlib.Core.Bool.{_&&_};
 ghost use mathlib.Core.List.{[]};
 ghost use Prim.Native.Nat.{_≤_, _<_};
-ghost use lib.Dec.{eqb};
 ghost use lib.ListN.{length};
 ghost use Rattle.rules.specs.Plan.{version1};
 ghost use Rattle.plan.specs.Layout.{records, earlier};
 ghost use Rattle.plan.specs.Values.{limitOf, linkOf};
-ghost use Rattle.plan.specs.File.{fresh as File·fresh, limitsAnswer, linksAnswer, planAnswer};
-ghost use Rattle.writing.specs.PlanLists.{Lists, limitIn, linkIn, listedPlan, evenLists};
-use answers::accepted;
-use plan::counts_answer;
-use plan::limit_fits;
-use plan::link_fits;
+ghost use Rattle.plan.specs.File.{fresh as File·fresh, limitsAnswer, linksAnswer};
+ghost use Rattle.writing.specs.PlanLists.{limitIn, linkIn};
 use plan::Limit;
 use plan::Link;
+use plan::limit_fits;
+use plan::link_fits;
 use rules::Answer;
 
 // The limit at an index of three lists.

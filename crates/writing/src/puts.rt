@@ -60,7 +60,11 @@ pub fn put_limits(buffer: &mut [u8], m: u32, from: &[u32], to: &[u32], weight: &
 {
     let mut i = 0;
     while i < m {
-        put_limit(buffer, 24 + 12 * (i as usize), limit_in(from, to, weight, i));
+        put_limit(
+            buffer,
+            24 + 12 * (i as usize),
+            limit_in(from, to, weight, i),
+        );
         i += 1;
     }
 }
@@ -81,7 +85,11 @@ pub fn put_links(
     let first = 24 + 12 * (m as usize);
     let mut i = 0;
     while i < k {
-        put_link(buffer, first + 16 * (i as usize), link_in(act, con, short, long, i));
+        put_link(
+            buffer,
+            first + 16 * (i as usize),
+            link_in(act, con, short, long, i),
+        );
         i += 1;
     }
 }

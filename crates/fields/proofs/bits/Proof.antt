@@ -14,6 +14,7 @@ cast-result c =
     let w = c .before .args .w in
     let f = c .before .fits .w in
     rw (toZ-ofZ w32 w f) (low-cast w f (rw (toZ-ofZ w32 w f) at (c .if1 .taken)))
+
 sub-result : tie.Need-sub-result
 sub-result c =
     let w = c .before .args .w in
@@ -40,6 +41,7 @@ returns c =
     let w = c .before .args .w in
     let f = c .before .fits .w in
     rw (toZ-ofZ w32 w f) (bits-low w (rw (toZ-ofZ w32 w f) at (c .if1 .taken)))
+
 returns-2 : tie.Need-returns-2
 returns-2 c =
     let w = c .before .args .w in

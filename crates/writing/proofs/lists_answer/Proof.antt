@@ -2,7 +2,8 @@
 -- Assumes nothing.
 use Rattle.writing.proofs.Common.{arith, needs, version1}
 use Rattle.writing.specs.PlanLists.{Lists, lists}
-use Rattle.writing.proofs.WriteAnswers.{ListsOk, counts-stop, counts-passed, limits-refused, links-answer}
+use Rattle.writing.specs.Puts.{ListsOk}
+use Rattle.writing.proofs.WriteAnswers.{counts-stop, counts-passed, limits-refused, links-answer}
 use Rattle.writing.proofs.lists_answer.Statement.{statement}
 use Rattle.writing.proofs.lists_answer.Tie as tie
 
