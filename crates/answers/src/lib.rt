@@ -1,8 +1,7 @@
-// The paper's two numbers of an answer, and the one number in which both pass to C.
+// The paper's two numbers of an answer.
 ghost use mathlib.Core.Path.{_≡_};
 ghost use lib.Dec.{eqb};
 ghost use Rattle.rules.specs.Answers.{codeOf, placeOf};
-ghost use Rattle.answers.specs.Packed.{packedOf};
 use rules::Answer;
 
 // The code of an answer.
@@ -52,11 +51,4 @@ pub fn accepted(a: Answer) -> bool
     ensures { λ r. ⌜ r ≡ eqb (codeOf a) 0 ⌝ }
 {
     code(a) == 0
-}
-
-// The number of an answer: the code in the low 32 bits, the place in the high 32.
-pub fn packed(a: Answer) -> u64
-    ensures { λ r. ⌜ r ≡ packedOf a ⌝ }
-{
-    (code(a) as u64) + 4_294_967_296 * (place(a) as u64)
 }

@@ -23,7 +23,7 @@ use Rattle.answers.proofs.CodeZero.{code-zero}
 use Rattle.plan.specs.Layout.{planOf}
 use Rattle.plan.specs.File.{fileAnswer}
 use Rattle.plan.proofs.SoundFile.{good}
-use Rattle.answers.specs.Packed.{packedOf, Packed}
+use Rattle.post.specs.Faces.{packedOf, Packed}
 
 -- what code 0 says: the file is sound, and the tables are closed
 pub record Accepted (r : Ranges) (file : Answer) (p : Plan) (strict weak : List ℤ) : Type 0 where

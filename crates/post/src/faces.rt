@@ -1,15 +1,27 @@
 // The calls as C calls them (include/post.h). An answer passes as one 64-bit number.
+ghost use mathlib.Core.Path.{_≡_};
 ghost use Rattle.rules.specs.Plan.{version1};
 ghost use Rattle.rules.specs.Calls.{Judged, Checked, Timed, Added};
 ghost use Rattle.plan.specs.Layout.{planOf};
 ghost use Rattle.plan.specs.File.{fileAnswer, addAnswer};
-ghost use Rattle.answers.specs.Packed.{Packed};
-ghost use Rattle.post.specs.Faces.{PackedAdd};
+ghost use Rattle.writing.specs.PlanLists.{lists};
+ghost use Rattle.writing.specs.Wrote.{Wrote};
+ghost use Rattle.post.specs.Faces.{packedOf, Packed, PackedAdd};
 use crate::check;
 use crate::judging::judge;
 use crate::timing::earliest;
 use adding::add;
-use answers::packed;
+use answers::code;
+use answers::place;
+use rules::Answer;
+use writing::write;
+
+// The number of an answer: the code in the low 32 bits, the place in the high 32.
+pub fn packed(a: Answer) -> u64
+    ensures { λ r. ⌜ r ≡ packedOf a ⌝ }
+{
+    (code(a) as u64) + 4294967296 * (place(a) as u64)
+}
 
 // Check.
 #[no_mangle]
@@ -54,4 +66,22 @@ pub extern "C" fn post_add(
     ensures { λ r. ⌜ PackedAdd (Added version1 (addAnswer (now (file .entry)) (record { from = x; to = y; weight = w })) (planOf (now (file .entry))) (record { from = x; to = y; weight = w }) (now (strict .entry)) (now («open» .entry)) (now (scratch .entry))) r (now (strict .exit)) (now («open» .exit)) (now (scratch .exit)) ⌝ }
 {
     packed(add(file, x, y, w, strict, open, scratch))
+}
+
+// Write. In C `short` and `long` are no names.
+#[no_mangle]
+pub extern "C" fn post_write(
+    n: u32,
+    from: &[u32],
+    to: &[u32],
+    weight: &[i32],
+    act: &[u32],
+    con: &[u32],
+    shortest: &[u32],
+    longest: &[u32],
+    buffer: &mut [u8],
+) -> u64
+    ensures { λ r. ⌜ Packed (λ a. Wrote (lists n (now (from .entry)) (now (to .entry)) (now (weight .entry)) (now (act .entry)) (now (con .entry)) (now (shortest .entry)) (now (longest .entry))) (now (buffer .entry)) a (now (buffer .exit))) r ⌝ }
+{
+    packed(write(n, from, to, weight, act, con, shortest, longest, buffer))
 }

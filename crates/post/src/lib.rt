@@ -16,13 +16,13 @@ pub use faces::post_add;
 pub use faces::post_check;
 pub use faces::post_earliest;
 pub use faces::post_judge;
+pub use faces::post_write;
 pub use judging::judge;
 use plan::head;
 use plan::sound;
 use rules::Answer;
 pub use rules::Side;
 pub use timing::earliest;
-pub use writing::post_write;
 pub use writing::write;
 
 // Check: whether two tables are closed for a plan file. It writes nothing.

@@ -1,5 +1,4 @@
 // Plans written: a plan whose fields are lent as lists, into a lent buffer.
-mod faces;
 mod listed;
 mod puts;
 
@@ -16,7 +15,6 @@ ghost use Rattle.writing.specs.PlanLists.{lists, listedPlan, evenLists};
 ghost use Rattle.writing.specs.Puts.{ListsOk};
 ghost use Rattle.writing.specs.Wrote.{fileOf, Wrote};
 use answers::accepted;
-pub use faces::post_write;
 use listed::limits;
 use listed::links;
 use plan::counts_answer;
