@@ -6,6 +6,7 @@ root=$(dirname "$here")
 out=$root/target/compare
 library=${POST_LIBRARY:-$root/target/staticlib/libpost.a}
 verdict=$root/target/bin/verdict  # the small program
+holding=(hold shrink ground shapes reference)  # what a program that holds the calls is linked with
 flags=(-I"$root/include" -std=c++17 "${OPTIMIZE:--O2}" -Wall -Wextra)
 fail() { echo "compare: $*" >&2; exit 2; }
 
