@@ -63,6 +63,12 @@ compile() {
   for pid in "${running[@]}"; do wait "$pid" || fail "something did not compile"; done
 }
 
+# compile_example NAME: an object of examples/NAME.c, as C and strictly so, for people's programs may be C.
+compile_example() {
+  "${compiler%g++}gcc" -I"$root/include" -std=c99 -pedantic -Wall -Wextra -Werror "${OPTIMIZE:--O2}" -c -o "$out/$flavour/$1.o" "$root/examples/$1.c" ||
+    fail "examples/$1.c did not compile"
+}
+
 # link PROGRAM SOURCE...: the program from objects, with the calls of the flavour where `calls` is named.
 link() {
   local program=$1 name objects=()

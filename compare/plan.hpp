@@ -104,10 +104,11 @@ inline Wide number_at(const Lists &lists, std::size_t list, std::size_t index) {
   return list == weight_list ? Wide(std::int32_t(field)) : Wide(field);
 }
 
+// Every list that is not empty, by its name.
 inline std::string notation(const Lists &lists) {
   std::string text = "n " + std::to_string(lists.points);
   for (std::size_t list = 0; list < list_count; ++list) {
-    text += std::string(", ") + list_names[list];
+    if (!lists.fields[list].empty()) text += std::string(", ") + list_names[list];
     for (std::size_t i = 0; i < lists.fields[list].size(); ++i) text += " " + std::to_string(number_at(lists, list, i));
   }
   return text;
