@@ -4,6 +4,7 @@
 #include <cstdio>
 
 #include "calls.hpp"
+#include "lists.hpp"
 
 namespace {
 
@@ -36,7 +37,8 @@ void writes(const Calls &calls, const char *name, const Plan &plan, std::uint64_
   left.resize(left.size() + 3);
   std::fill(left.begin() + size, left.end(), 7);
   std::vector<std::uint8_t> buffer(left.size(), 7);
-  expect(write_lists(calls.write, lists_of(plan), buffer) == answer && buffer == left, calls.name, name);
+  const Lists lists = lists_of(plan);
+  expect(write_lists(calls.write, lists, places_of(lists), buffer.data(), buffer.size()) == answer && buffer == left, calls.name, name);
 }
 
 // Judge gives these tables and Check accepts them; the plan is one that is written.

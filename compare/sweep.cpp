@@ -1,9 +1,10 @@
-// Judge by sweeps over two tables, and by spreading, and Write, as a C++ programmer would write them for speed. Written apart from reference.cpp and sharing
-// nothing with it: the file is read where it lies, a sweep joins by middle, from, to, and sums are kept in the cell's own type.
+// Judge by sweeps over two tables, and by spreading, and Write, as a C++ programmer would write them for speed. Written apart from reference.cpp
+// and sharing nothing with it: the file is read where it lies, a sweep joins by middle, from, to, and sums are kept in the cell's own type.
 #include "sweep.hpp"
 
 #include <algorithm>
 #include <cstdint>
+#include <cstring>
 #include <limits>
 
 namespace sweep {
@@ -74,12 +75,8 @@ std::uint64_t open_file(View &view, const std::uint8_t *file, std::size_t length
   });
 }
 
-void put(std::uint8_t *at, std::uint32_t field) {
-  at[0] = std::uint8_t(field);
-  at[1] = std::uint8_t(field >> 8);
-  at[2] = std::uint8_t(field >> 16);
-  at[3] = std::uint8_t(field >> 24);
-}
+// The machines here are little-endian, as the file is. Byte by byte would take longer: g++ does not make one store of four here.
+void put(std::uint8_t *at, std::uint32_t field) { std::memcpy(at, &field, sizeof field); }
 
 // Two tables of one cell type. `top` is the greatest cell a controllable plan can have; what is above it is never stored, what is below
 // -top is stored as the floor, which only an uncontrollable plan reaches. So no sum leaves the type.

@@ -1,5 +1,5 @@
-// Plain C++ beside the library: the full sweep and a plain writer, which are the benchmark's measure and stand in for the library until that is built, and
-// the library's own way. Parameters and answers are those of post.h.
+// Plain C++ beside the library: the full sweep and a plain writer, which are the benchmark's measure and stand in for the library until that is
+// built, and the library's own way. Parameters and answers are those of post.h.
 #pragma once
 #include "post.h"
 
