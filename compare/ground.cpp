@@ -37,6 +37,11 @@ void watch() {
   for (int number : {SIGSEGV, SIGBUS, SIGILL, SIGFPE, SIGABRT, SIGTRAP, SIGALRM}) sigaction(number, &action, nullptr);
 }
 
+Ended stopped_by(int number) {
+  if (number == SIGALRM) return {0, true, "it did not come back within " + std::to_string(patience) + " seconds"};
+  return {0, false, "it was stopped by signal " + std::to_string(number) + ", as a touch outside what it was lent is"};
+}
+
 }  // namespace
 
 Ground::Ground() {
@@ -50,18 +55,14 @@ Ground::Ground() {
 
 Ended run_guarded(const std::function<std::uint64_t()> &call) {
   watch();
-  Ended ended;
   alarm(patience);
   if (const int number = sigsetjmp(back, 0)) {
     alarm(0);
-    ended.hung = number == SIGALRM;
-    ended.stopped = ended.hung ? "it did not come back within " + std::to_string(patience) + " seconds"
-                               : "it was stopped by signal " + std::to_string(number) + ", as a touch outside what it was lent is";
-    return ended;
+    return stopped_by(number);
   }
   inside = 1;
-  ended.answer = call();
+  const std::uint64_t answer = call();
   inside = 0;
   alarm(0);
-  return ended;
+  return {answer, false, ""};
 }

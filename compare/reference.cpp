@@ -1,5 +1,5 @@
-// Document 01, section by section: plan file, edges and rules, two tables, numbers returned; then what document 02 adds. Written to be read beside them,
-// not to be quick: rounds over every rule in the paper's words until nothing moves.
+// Document 01, section by section: plan file, edges and rules, two tables, numbers returned; then what document 02 adds. Written to be read
+// beside them, not to be quick: rounds over every rule in the paper's words until nothing moves.
 #include "reference.hpp"
 
 #include <algorithm>

@@ -1,10 +1,12 @@
-// Write held against the reference. First lists whose answers are typed here: every field at and beyond the ends of its range, every length, faults by twos,
-// buffers of all lengths. Then random plans, sound and damaged. What was written is read back and judged; a plan file that was read is written again.
+// Write held against the reference. First lists whose answers are typed here: every field at and beyond the ends of its range, every length,
+// faults by twos, buffers of all lengths. Then random plans, sound and damaged. What was written is read back and judged; a plan file that was read
+// is written again.
 #include <algorithm>
 #include <tuple>
 
 #include "ground.hpp"
 #include "hold.hpp"
+#include "lists.hpp"
 #include "shapes.hpp"
 #include "shrink.hpp"
 
@@ -30,16 +32,16 @@ Result run_both(const Writing &lent) {
   static const Ground grounds[list_count + 1];
   Result result;
   Bytes expected = lent.buffer;
-  result.wanted = write_lists(reference::write, lent.lists, expected);
+  result.wanted = write_lists(reference::write, lent.lists, places_of(lent.lists), expected.data(), expected.size());
 
   std::vector<Lent<std::uint32_t>> lists;
-  std::array<const std::uint32_t *, list_count> at;
+  Places at;
   for (std::size_t list = 0; list < list_count; ++list) {
     lists.emplace_back(grounds[list], lent.lists.fields[list], lent.past, std::string(list_names[list]) + " list");
     at[list] = lists[list].cells;
   }
   const Lent<std::uint8_t> buffer(grounds[list_count], lent.buffer, lent.past, "buffer");
-  const Ended ended = run_guarded([&] { return write_at(post_write, lent.lists, at, buffer.cells, lent.buffer.size()); });
+  const Ended ended = run_guarded([&] { return write_lists(post_write, lent.lists, at, buffer.cells, lent.buffer.size()); });
   result.hung = ended.hung;
   result.difference = ended.stopped;
   if (!ended.stopped.empty()) return result;
@@ -143,7 +145,7 @@ std::uint64_t hold(Writing &lent, const Budget &budget) {
   return result.wanted;
 }
 
-// Lists with a buffer of so many bytes, all of them other ones than a file has there.
+// Lists with a buffer of so many bytes, which hold anything.
 Writing lend(Random &random, const Lists &lists, std::size_t room) {
   Writing lent{lists, Bytes(room), random.one_in(2) ? 0 : 1 + random.below(8)};
   std::uint32_t number = std::uint32_t(random.next());
@@ -303,8 +305,8 @@ struct Typed {
   void buffers(std::uint32_t m, std::uint32_t k) {
     const Lists sound = sound_lists(40, m, k);
     const std::size_t size = sound.file_size();
-    for (std::size_t room : {std::size_t(0), std::size_t(1), std::size_t(23), std::size_t(24), size - 16, size - 12, size - 1, size, size + 1, size + 1000})
-      must_into(room, sound, room < size ? 9 : 0);
+    const std::vector<std::size_t> rooms = {0, 1, 23, 24, size - 16, size - 12, size - 1, size, size + 1, size + 1000};
+    for (std::size_t room : rooms) must_into(room, sound, room < size ? 9 : 0);
   }
 
   void all() {
@@ -319,21 +321,27 @@ struct Typed {
 
 // ---- random lists ----
 
+// A number at the end of the points, or any that edge_number gives.
+std::uint32_t about(Random &random, std::uint32_t points, std::uint32_t now) {
+  return random.one_in(3) ? points + random.below(3) - 1 : edge_number(random, now);
+}
+
 void damage_link(Random &random, Lists &lists) {
-  const std::uint32_t k = std::uint32_t(std::min({lists[act_list].size(), lists[con_list].size(), lists[shortest_list].size(), lists[longest_list].size()}));
-  if (k == 0) return;
+  std::size_t whole = lists.links();
+  for (std::size_t list = act_list; list < list_count; ++list) whole = std::min(whole, lists.fields[list].size());
+  if (whole == 0) return;
+  const std::uint32_t k = std::uint32_t(whole);
   const std::uint32_t i = random.below(k), other = random.below(k);
-  switch (random.below(8)) {
+  switch (random.below(9)) {
     case 0: lists[con_list][i] = lists[act_list][i]; break;
     case 1: lists[con_list][i] = 0; break;
     case 2: lists[con_list][i] = lists[con_list][other]; break;
     case 3: lists[shortest_list][i] = lists[longest_list][i] + random.below(2); break;
     case 4: lists[shortest_list][i] = 0; break;
     case 5: lists[longest_list][i] = 1000000 + random.below(2); break;
-    case 6: (random.one_in(2) ? lists[act_list] : lists[con_list])[i] = lists.points + random.below(3) - 1; break;
     default: {
-      auto &list = lists.fields[act_list + random.below(4)];
-      list[i] = edge_number(random, list[i]);
+      std::uint32_t &number = lists.fields[act_list + random.below(4)][i];
+      number = about(random, lists.points, number);
     }
   }
 }
@@ -347,7 +355,7 @@ void damage(Random &random, Lists &lists) {
       switch (random.below(4)) {
         case 0: list.clear(); break;
         case 1: list.resize(length - std::min(length, 1u)); break;
-        case 2: list.push_back(random.below(lists.points + 1u)); break;
+        case 2: list.push_back(random.below(8)); break;
         default: list.resize(random.below(2 * length + 2), 1);
       }
       break;
@@ -363,13 +371,13 @@ void damage(Random &random, Lists &lists) {
       auto &field = lists.fields[random.below(act_list)];
       if (field.empty()) break;
       std::uint32_t &number = field[random.below(std::uint32_t(field.size()))];
-      number = random.one_in(3) ? lists.points + random.below(3) - 1 : edge_number(random, number);
+      number = about(random, lists.points, number);
       break;
     }
     case 5: case 6: damage_link(random, lists); break;
     default:
       if (random.one_in(2)) std::swap(list, lists.fields[random.below(list_count)]);
-      else for (std::uint32_t &number : list) number = std::uint32_t(random.next()) >> random.below(32);
+      else for (std::uint32_t &number : list) number = edge_number(random, number);
   }
 }
 
@@ -408,9 +416,9 @@ int main(int words, char **word) {
   }
   std::printf("writing: %llu lists with typed answers, places up to %u with 6, %u with 7, %u with 8\n", static_cast<unsigned long long>(typed.calls),
               typed.furthest[6], typed.furthest[7], typed.furthest[8]);
-  std::printf("writing: %llu random lists, %llu of them those of a plan file; %llu written, read back and judged, %llu of these controllable, %.1f s, no difference\n",
-              static_cast<unsigned long long>(budget.done), static_cast<unsigned long long>(sound), static_cast<unsigned long long>(codes.times[0]),
-              static_cast<unsigned long long>(controllable), budget.spent());
+  std::printf("writing: %llu random lists, %llu of them those of a plan file, %.1f s, no difference; %llu written, read back and judged, %llu controllable\n",
+              static_cast<unsigned long long>(budget.done), static_cast<unsigned long long>(sound), budget.spent(),
+              static_cast<unsigned long long>(codes.times[0]), static_cast<unsigned long long>(controllable));
   Codes::print_head();
   typed.codes.print("Write, typed answers");
   codes.print("Write, random lists");
