@@ -166,8 +166,8 @@ uint64_t post_add(const uint8_t *file, size_t file_len, uint32_t x, uint32_t y, 
  *            either is so, and 7 where both are
  *   9        the buffer has fewer bytes than the file
  *
- * They are looked for in that order; 1 and 2 are never answered. Lists of the fields of a file that post_judge does not
- * refuse with 1 to 8 give that file again, byte for byte.
+ * Refusals are looked for in that order; 1 and 2 never come. Lists of the fields of a file that post_judge does not refuse
+ * with 1 to 8 give that file again, byte for byte.
  *
  * Lent: seven lists, which are only read, and the buffer (buffer_len bytes), which may hold anything. The buffer changes
  * with 0 only. 12,824 bytes are room for every plan.
