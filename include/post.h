@@ -166,11 +166,11 @@ uint64_t post_add(const uint8_t *file, size_t file_len, uint32_t x, uint32_t y, 
  *            either is so, and 7 where both are
  *   9        the buffer has fewer bytes than the file
  *
- * Refusals are looked for in that order; 1 and 2 never come. Lists of the fields of a file that post_judge does not refuse
- * with 1 to 8 give that file again, byte for byte.
+ * Refusals are looked for in that order; 1 and 2 never come. Lists of the fields of a file that post_judge does not
+ * refuse with 1 to 8 give that file again, byte for byte.
  *
- * Lent: seven lists, which are only read, and the buffer (buffer_len bytes), which may hold anything. The buffer changes
- * with 0 only. 12,824 bytes are room for every plan.
+ * Lent: seven lists, which are only read, and the buffer (buffer_len bytes), which may hold anything. The buffer
+ * changes with 0 only. 12,824 bytes are room for every plan.
  */
 uint64_t post_write(uint32_t n, const uint32_t *from, size_t from_len, const uint32_t *to, size_t to_len, const int32_t *weight, size_t weight_len, const uint32_t *act, size_t act_len, const uint32_t *con, size_t con_len, const uint32_t *shortest, size_t shortest_len, const uint32_t *longest, size_t longest_len, uint8_t *buffer, size_t buffer_len);
 
