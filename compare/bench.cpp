@@ -1,5 +1,6 @@
-// How long Judge, Check and Add take, on the same plans in one run: the library (where linked), the sweep and the library's own way in plain C++, source document 001's
-// RUL- algorithm for the verdict alone and with the two tables that a post would still need, and Boost's Floyd-Warshall on plans without links.
+// How long Judge, Check, Add and Write take, on the same plans in one run: the library (where linked), the sweep, the library's own way and a writer
+// in plain C++, source document 001's RUL- algorithm for the verdict alone and with the two tables that a post would still need, and Boost's
+// Floyd-Warshall on plans without links.
 // A repeat times every contestant once, one after the other, so that a slow moment falls on all; ratios are taken within a repeat.
 #include <pthread.h>
 #include <sys/mman.h>
@@ -11,6 +12,7 @@
 #include <functional>
 #include <string>
 
+#include "lists.hpp"
 #include "plan.hpp"
 #include "post.h"
 #include "random.hpp"
@@ -33,10 +35,13 @@ struct Prepared {
   std::size_t cells;
   std::vector<std::int32_t> strict, open;  // as Judge leaves them
   Limit added;                             // a limit that Add takes
+  Lists lists;
+  Places at;  // of the lists, so that what is timed is the call alone; a Prepared is moved and never copied
 };
 
 std::int32_t strict[most_cells], open_cells[most_cells];
 std::int64_t scratch[2 * most_cells];
+std::uint8_t buffer[24 + 12 * most_limits + 16 * most_links];
 volatile std::uint64_t seen;  // keeps the calls from being left out
 
 // ---- plans ----
@@ -67,8 +72,31 @@ Plan draw(Random &random, std::uint32_t n, std::uint32_t k) {
   }
 }
 
-Prepared prepare(Random &random, const Plan &plan) {
+// The largest plan there is; only Write is timed on it, so nobody asks whether it is controllable.
+Plan draw_largest(Random &random) {
+  Plan plan;
+  plan.points = most_points;
+  while (plan.limits.size() < most_limits) {
+    const std::uint32_t from = random.below(most_points), to = random.below(most_points);
+    plan.limits.push_back({from, to, random.from_to(-most_weight, most_weight)});
+  }
+  for (std::uint32_t end = 1; end <= most_links; ++end) {
+    const std::uint32_t shortest = 1 + random.below(1000), longest = shortest + 1 + random.below(1000);
+    plan.links.push_back({random.below(end), end, shortest, longest});
+  }
+  return plan;
+}
+
+// As much of a plan as Write is lent.
+Prepared prepare_lists(const Plan &plan) {
   Prepared prepared;
+  prepared.lists = lists_of(plan);
+  prepared.at = places_of(prepared.lists);
+  return prepared;
+}
+
+Prepared prepare(Random &random, const Plan &plan) {
+  Prepared prepared = prepare_lists(plan);
   prepared.file = file_of(plan);
   prepared.cells = std::size_t(plan.points) * plan.points;
   sweep::judge(prepared.file.data(), prepared.file.size(), strict, most_cells, open_cells, most_cells);
@@ -114,6 +142,11 @@ Contestant adding(const char *name, Add add) {
           }};
 }
 
+template <class Write>
+Contestant writing(const char *name, Write write) {
+  return {name, [write](const Prepared &p) { seen = write_lists(write, p.lists, p.at, buffer, sizeof buffer); }};
+}
+
 // Boost's Floyd-Warshall as its manual has it: an adjacency list with weights, built from the file, and a matrix of distances.
 void boost_floyd_warshall(const Prepared &p) {
   using Graph = boost::adjacency_list<boost::vecS, boost::vecS, boost::directedS, boost::no_property, boost::property<boost::edge_weight_t, int>>;
@@ -146,7 +179,9 @@ double time_of(const Contestant &contestant, const std::vector<Prepared> &plans,
 
 // One table for each call, printed as Markdown at the end.
 struct Report {
-  std::string call, rows;
+  std::string call;
+  std::vector<std::string> columns;  // what a row says about its plans
+  std::string rows;
   std::vector<std::string> names;
 };
 
@@ -180,10 +215,11 @@ void measure(Report &report, const std::string &plans_are, const std::vector<Con
 }
 
 void print(const Report &report) {
-  std::printf("\n%s\n\n| n | k | sweeps | rounds", report.call.c_str());
-  for (const std::string &name : report.names) std::printf(" | %s", name.c_str());
-  std::printf(" |\n|--|--|--|--");
-  for (std::size_t i = 0; i < report.names.size(); ++i) std::printf("|--");
+  std::printf("\n%s\n\n", report.call.c_str());
+  for (const auto *names : {&report.columns, &report.names})
+    for (const std::string &name : *names) std::printf("| %s ", name.c_str());
+  std::printf("|\n");
+  for (std::size_t i = 0; i < report.columns.size() + report.names.size(); ++i) std::printf("|--");
   std::printf("|\n%s", report.rows.c_str());
 }
 
@@ -213,9 +249,11 @@ std::size_t stack_of(const std::function<void()> &call) {
   return with > without ? with - without : 0;
 }
 
-void print_stack(const char *name, decltype(&post_judge) judge, decltype(&post_check) check, decltype(&post_add) add, const Prepared &p) {
-  std::printf("  %-10s Judge %zu, Check %zu, Add %zu\n", name, stack_of([&] { judging("", judge).call(p); }),
-              stack_of([&] { checking("", check).call(p); }), stack_of([&] { adding("", add).call(p); }));
+void print_stack(const char *name, decltype(&post_judge) judge, decltype(&post_check) check, decltype(&post_add) add, decltype(&post_write) write,
+                 const Prepared &p) {
+  std::printf("  %-10s Judge %zu, Check %zu, Add %zu, Write %zu\n", name, stack_of([&] { judging("", judge).call(p); }),
+              stack_of([&] { checking("", check).call(p); }), stack_of([&] { adding("", add).call(p); }),
+              stack_of([&] { writing("", write).call(p); }));
 }
 
 }  // namespace
@@ -224,18 +262,24 @@ int main(int words, char **word) {
   Budget budget(words, word, 15);  // count: repeats
   const int repeats = int(budget.count);
   std::vector<Contestant> judges = {judging("plain C++", sweep::judge)}, checks = {checking("plain C++", sweep::check)},
-                          adds = {adding("plain C++", sweep::add)};
+                          adds = {adding("plain C++", sweep::add)}, writes = {writing("plain C++", sweep::write)};
 #ifdef WITH_LIBRARY
   judges.push_back(judging("library", post_judge));
   checks.push_back(checking("library", post_check));
   adds.push_back(adding("library", post_add));
+  writes.push_back(writing("library", post_write));
 #endif
   judges.push_back(judging("C++ by spreading", sweep::judge_by_spreading));
   judges.push_back({"RUL- verdict", [](const Prepared &p) { seen = rul::controllable(p.file.data(), p.file.size()); }});
   judges.push_back({"RUL- and two tables",
                     [](const Prepared &p) { seen = rul::controllable_with_tables(p.file.data(), p.file.size(), strict, open_cells); }});
   std::vector<Prepared> largest;
-  Report judge_report{"Judge", "", {}}, check_report{"Check", "", {}}, add_report{"Add", "", {}};
+  const std::vector<std::string> columns = {"n", "k", "sweeps", "rounds"};
+  Report judge_report{"Judge", columns, "", {}}, check_report{"Check", columns, "", {}}, add_report{"Add", columns, "", {}},
+      write_report{"Write", {"n", "m", "k"}, "", {}};
+  const auto measure_write = [&](std::uint32_t n, std::uint32_t m, std::uint32_t k, const std::vector<Prepared> &plans) {
+    measure(write_report, std::to_string(n) + " | " + std::to_string(m) + " | " + std::to_string(k), writes, plans, repeats);
+  };
   for (std::uint32_t n : {8u, 16u, 32u, 64u})
     for (std::uint32_t k : {0u, n / 4, n / 2}) {
       Random random(budget.seed * 1000003 + n * 100 + k);
@@ -256,14 +300,20 @@ int main(int words, char **word) {
       measure(judge_report, plans_are, with_boost, plans, repeats);
       measure(check_report, plans_are, checks, plans, repeats);
       measure(add_report, plans_are, adds, plans, repeats);
-      largest = plans;
+      measure_write(n, 3 * n, k, plans);
+      largest = std::move(plans);
     }
-  std::printf("12 controllable plans of 3 n limits a row. Microseconds of processor time a call, the median of %d repeats;\n", repeats);
+  Random random(budget.seed);
+  std::vector<Prepared> full;
+  for (int i = 0; i < 12; ++i) full.push_back(prepare_lists(draw_largest(random)));
+  measure_write(most_points, most_limits, most_links, full);
+  std::printf("12 controllable plans of 3 n limits a row; Write's last row has 12 plans of the most limits and links.\n");
+  std::printf("Microseconds of processor time a call, the median of %d repeats;\n", repeats);
   std::printf("x: the ratio to plain C++ in the same repeat, its median (least-most). Both tables take 8 n n bytes, Add's scratch 16 n n.\n");
-  for (const Report *report : {&judge_report, &check_report, &add_report}) print(*report);
+  for (const Report *report : {&judge_report, &check_report, &add_report, &write_report}) print(*report);
   std::printf("\nBytes of stack a call touches, at n 64 and k 32\n\n");
-  print_stack("plain C++", sweep::judge, sweep::check, sweep::add, largest[0]);
+  print_stack("plain C++", sweep::judge, sweep::check, sweep::add, sweep::write, largest[0]);
 #ifdef WITH_LIBRARY
-  print_stack("library", post_judge, post_check, post_add, largest[0]);
+  print_stack("library", post_judge, post_check, post_add, post_write, largest[0]);
 #endif
 }

@@ -1,4 +1,4 @@
-// The four calls as one value, so that the reference and the linked library are run by the same code.
+// The calls as one value, so that the reference and the linked library are run by the same code.
 #pragma once
 #include "post.h"
 #include "reference.hpp"
@@ -9,10 +9,17 @@ struct Calls {
   decltype(&post_judge) judge;
   decltype(&post_earliest) earliest;
   decltype(&post_add) add;
+  decltype(&post_write) write;
 };
 
-inline const Calls reference_calls = {"reference", reference::check, reference::judge, reference::earliest, reference::add};
-inline const Calls linked_calls = {"linked", post_check, post_judge, post_earliest, post_add};
+inline const Calls reference_calls = {"reference", reference::check, reference::judge, reference::earliest, reference::add,
+                                      reference::write};
+inline const Calls linked_calls = {"linked", post_check, post_judge, post_earliest, post_add, post_write};
 
 inline std::uint32_t code_of(std::uint64_t answer) { return std::uint32_t(answer); }
 inline std::uint32_t place_of(std::uint64_t answer) { return std::uint32_t(answer >> 32); }
+inline std::string said(std::uint64_t answer) { return std::to_string(code_of(answer)) + " " + std::to_string(place_of(answer)); }
+
+inline std::string answers_differ(std::uint64_t got, std::uint64_t wanted) {
+  return got == wanted ? "" : "it answers " + said(got) + ", the reference " + said(wanted);
+}

@@ -1,8 +1,10 @@
 // Document 01's plans a to l, typed in from the paper with the answers it gives, run on the reference and then on the linked calls.
 // Also the paper's "Easy ways to be wrong" that name a case, and one plan whose strict cells fall for ever.
+#include <algorithm>
 #include <cstdio>
 
 #include "calls.hpp"
+#include "lists.hpp"
 
 namespace {
 
@@ -28,12 +30,24 @@ Judged judge(const Calls &calls, const Plan &plan) {
   return judged;
 }
 
-// Judge gives these tables and Check accepts them.
+// Write answers this; with 0 the buffer begins with the file of the plan, and else, as past the file, it stays.
+void writes(const Calls &calls, const char *name, const Plan &plan, std::uint64_t answer) {
+  std::vector<std::uint8_t> left = file_of(plan);
+  const std::size_t size = answer == 0 ? left.size() : 0;
+  left.resize(left.size() + 3);
+  std::fill(left.begin() + size, left.end(), 7);
+  std::vector<std::uint8_t> buffer(left.size(), 7);
+  const Lists lists = lists_of(plan);
+  expect(write_lists(calls.write, lists, places_of(lists), buffer.data(), buffer.size()) == answer && buffer == left, calls.name, name);
+}
+
+// Judge gives these tables and Check accepts them; the plan is one that is written.
 void gives(const Calls &calls, const char *name, const Plan &plan, const Cells &strict, const Cells &open) {
   const Judged judged = judge(calls, plan);
   expect(judged.answer == 0 && judged.strict == strict && judged.open == open, calls.name, name);
   const auto file = file_of(plan);
   expect(calls.check(file.data(), file.size(), strict.data(), strict.size(), open.data(), open.size()) == 0, calls.name, name);
+  writes(calls, name, plan, 0);
 }
 
 void refuses(const Calls &calls, const char *name, const Plan &plan, std::uint32_t code, std::uint32_t place = 0) {
@@ -41,6 +55,7 @@ void refuses(const Calls &calls, const char *name, const Plan &plan, std::uint32
   expect(code_of(judged.answer) == code && place_of(judged.answer) == place, calls.name, name);
   const Cells left(plan.points * plan.points, code == 11 ? mark : 7);
   expect(judged.strict == left && judged.open == left, calls.name, name);
+  writes(calls, name, plan, code == 11 ? 0 : judged.answer);
 }
 
 void earliest(const Calls &calls, const char *name, const Plan &plan, const Cells &times) {

@@ -13,21 +13,6 @@ void set_field(File &file, std::size_t at, std::uint32_t value) {
   for (std::size_t i = 0; i < 4 && at + i < file.size(); ++i) file[at + i] = std::uint8_t(value >> (8 * i));
 }
 
-// A number beside one that the paper names, or any.
-std::uint32_t edge_number(Random &random, std::uint32_t now) {
-  static const std::vector<std::uint32_t> named = {0, 1, 2, 24, 32, 36, 64, 1024, 1000000, std::uint32_t(-1000000), 0x7fffffff, 0x80000000, 0xffffffff};
-  switch (random.below(6)) {
-    case 0: return now + 1;
-    case 1: return now - 1;
-    case 2: return std::uint32_t(random.next());
-    case 3: return now ^ 1u << random.below(32);
-    default: {
-      const std::uint32_t one = random.any_of(named);
-      return one + random.below(3) - 1;
-    }
-  }
-}
-
 std::size_t limits_of(const File &file) { return field_at(file, 8); }
 
 void damage(Random &random, File &file, std::uint32_t n) {

@@ -32,12 +32,22 @@ Outcome run_both(const Case &lent);
 // Runs the case and insists that there is no difference. The rooms of `lent` then hold what the call left. Returns the answer.
 std::uint64_t hold(Case &lent, const Budget &budget);
 
-// A case with rooms for `points` points, filled at random. Rooms are as needed, one short, one long or longer, mostly as needed.
+// A room as needed, one short, one long or longer, mostly as needed.
+std::size_t room_about(Random &random, std::size_t needed);
+
+// A case with such rooms for `points` points, filled at random; with `exact` they are as needed.
 Case lend(Random &random, Call call, std::vector<std::uint8_t> file, std::size_t points, bool exact = false);
 
-// How often each code was answered by each call.
+// How often each code was answered: by one call, and by each of those of `Call`.
+struct Codes {
+  std::array<std::uint64_t, 14> times{};
+  void count(std::uint64_t answer) { ++times[code_of(answer) < 13 ? code_of(answer) : 13]; }
+  static void print_head();
+  void print(const char *call) const;
+};
+
 struct Tally {
-  std::array<std::array<std::uint64_t, 14>, 4> codes{};
-  void count(Call call, std::uint64_t answer) { ++codes[std::size_t(call)][code_of(answer) < 13 ? code_of(answer) : 13]; }
+  std::array<Codes, 4> calls;
+  void count(Call call, std::uint64_t answer) { calls[std::size_t(call)].count(answer); }
   void print() const;
 };

@@ -6,6 +6,7 @@ root=$(dirname "$here")
 out=$root/target/compare
 library=${POST_LIBRARY:-$root/target/staticlib/libpost.a}
 verdict=$root/target/bin/verdict  # the small program
+holding=(hold shrink ground shapes reference)  # what a program that holds the calls is linked with
 flags=(-I"$root/include" -std=c++17 "${OPTIMIZE:--O2}" -Wall -Wextra)
 fail() { echo "compare: $*" >&2; exit 2; }
 
@@ -60,6 +61,12 @@ compile() {
     if (( ${#running[@]} == 2 )); then wait "${running[0]}" || fail "$name did not compile"; running=("${running[1]}"); fi
   done
   for pid in "${running[@]}"; do wait "$pid" || fail "something did not compile"; done
+}
+
+# compile_example NAME: an object of examples/NAME.c, as C and strictly so, for people's programs may be C.
+compile_example() {
+  "${compiler%g++}gcc" -I"$root/include" -std=c99 -pedantic -Wall -Wextra -Werror "${OPTIMIZE:--O2}" -c -o "$out/$flavour/$1.o" "$root/examples/$1.c" ||
+    fail "examples/$1.c did not compile"
 }
 
 # link PROGRAM SOURCE...: the program from objects, with the calls of the flavour where `calls` is named.

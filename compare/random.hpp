@@ -56,5 +56,12 @@ struct Budget {
     return true;
   }
 
+  // The last line on a difference, and the end. Without destructors: a call that was stopped may have left anything.
+  [[noreturn]] void found() const {
+    std::printf("  found with seed %llu in round %llu\n", static_cast<unsigned long long>(seed), static_cast<unsigned long long>(done));
+    std::fflush(stdout);
+    std::_Exit(1);
+  }
+
   Random round() const { return Random(seed * 0x2545f4914f6cdd1du + done); }
 };

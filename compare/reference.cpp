@@ -1,5 +1,5 @@
-// Document 01, section by section: plan file, edges and rules, two tables, numbers returned. Written to be read beside it, not to be quick:
-// rounds over every rule in the paper's words until nothing moves.
+// Document 01, section by section: plan file, edges and rules, two tables, numbers returned; then what document 02 adds. Written to be read
+// beside them, not to be quick: rounds over every rule in the paper's words until nothing moves.
 #include "reference.hpp"
 
 #include <algorithm>
@@ -205,7 +205,7 @@ bool closed(const Plan &plan, const std::int32_t *strict_cells, const std::int32
 
 static std::uint64_t answer(std::uint32_t code, std::uint32_t place = 0) { return std::uint64_t(place) << 32 | code; }
 
-static void write(const std::vector<Wide> &table, std::int32_t *cells) {
+static void write_table(const std::vector<Wide> &table, std::int32_t *cells) {
   for (std::size_t i = 0; i < table.size(); ++i) cells[i] = table[i] == none ? mark : std::int32_t(table[i]);
 }
 
@@ -226,8 +226,8 @@ static std::uint64_t fill(const Plan &plan, std::int32_t *strict, std::int32_t *
     std::fill_n(open, std::size_t(plan.points) * plan.points, mark);
     return answer(11);
   }
-  write(settled.strict, strict);
-  write(settled.open, open);
+  write_table(settled.strict, strict);
+  write_table(settled.open, open);
   return answer(0);
 }
 
@@ -276,8 +276,36 @@ std::uint64_t add(const std::uint8_t *file, std::size_t file_len, std::uint32_t 
   for (const auto *table : {&settled.strict, &settled.open})
     for (Wide cell : *table)
       if (cell != none && (cell < -closed_range || cell > closed_range)) return answer(12);
-  write(settled.strict, strict);
-  write(settled.open, open);
+  write_table(settled.strict, strict);
+  write_table(settled.open, open);
+  return answer(0);
+}
+
+// ---- document 02, item 1 ----
+
+std::uint64_t write(std::uint32_t n, const std::uint32_t *from, std::size_t from_len, const std::uint32_t *to, std::size_t to_len,
+                    const std::int32_t *weight, std::size_t weight_len, const std::uint32_t *act, std::size_t act_len, const std::uint32_t *con,
+                    std::size_t con_len, const std::uint32_t *shortest, std::size_t shortest_len, const std::uint32_t *longest,
+                    std::size_t longest_len, std::uint8_t *buffer, std::size_t buffer_len) {
+  // "m and k being the lengths of the from and A lists; another length gets 5", behind 3 and 4 as the reader has it.
+  const std::size_t m = from_len, k = act_len;
+  if (n < 1 || n > most_points) return answer(3);
+  if (m > most_limits || k > most_links) return answer(4);
+  for (std::size_t length : {to_len, weight_len})
+    if (length != m) return answer(5);
+  for (std::size_t length : {con_len, shortest_len, longest_len})
+    if (length != k) return answer(5);
+  Plan plan;
+  plan.points = n;
+  for (std::size_t i = 0; i < m; ++i) plan.limits.push_back({from[i], to[i], weight[i]});
+  for (std::size_t i = 0; i < k; ++i) plan.links.push_back({act[i], con[i], shortest[i], longest[i]});
+
+  // "It refuses what the reader refuses, with the same codes": so the file is made, and read.
+  const std::vector<std::uint8_t> file = file_of(plan);
+  const Reading reading = read(file.data(), file.size());
+  if (reading.code != 0) return answer(reading.code, reading.place);
+  if (buffer_len < file.size()) return answer(9);  // "a buffer shorter than the file gets 9, last"
+  std::copy(file.begin(), file.end(), buffer);
   return answer(0);
 }
 

@@ -1,6 +1,7 @@
 // The reference: document 01 rendered as plainly as C++ allows, and nothing else. It shares no code with the library.
 #pragma once
 #include "plan.hpp"
+#include "post.h"
 
 namespace reference {
 
@@ -37,14 +38,11 @@ Reading read(const std::uint8_t *file, std::size_t length, const Limit *added = 
 
 bool closed(const Plan &plan, const std::int32_t *strict, const std::int32_t *open);
 
-// The four calls, with the parameters and the answers of post.h.
-std::uint64_t check(const std::uint8_t *file, std::size_t file_len, const std::int32_t *strict, std::size_t strict_len,
-                    const std::int32_t *open, std::size_t open_len);
-std::uint64_t judge(const std::uint8_t *file, std::size_t file_len, std::int32_t *strict, std::size_t strict_len, std::int32_t *open,
-                    std::size_t open_len);
-std::uint64_t earliest(const std::uint8_t *file, std::size_t file_len, std::int32_t *strict, std::size_t strict_len, std::int32_t *open,
-                       std::size_t open_len, std::int32_t *times, std::size_t times_len);
-std::uint64_t add(const std::uint8_t *file, std::size_t file_len, std::uint32_t x, std::uint32_t y, std::int32_t w, std::int32_t *strict,
-                  std::size_t strict_len, std::int32_t *open, std::size_t open_len, std::int64_t *scratch, std::size_t scratch_len);
+// The calls, with the parameters and the answers of post.h.
+decltype(post_check) check;
+decltype(post_judge) judge;
+decltype(post_earliest) earliest;
+decltype(post_add) add;
+decltype(post_write) write;
 
 }  // namespace reference

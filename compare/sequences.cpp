@@ -80,8 +80,8 @@ std::string trouble(const Calls &calls, const Plan &plan, const std::vector<Limi
   }
   std::printf("DIFFERENCE in a sequence of additions: %s\n  plan: %s\n  added:", trouble(linked_calls, plan, order).c_str(), notation(plan).c_str());
   for (const Limit &limit : order) std::printf(" %s;", notation(limit).c_str());
-  std::printf("\n  found with seed %llu in round %llu\n", static_cast<unsigned long long>(budget.seed), static_cast<unsigned long long>(budget.done));
-  std::exit(1);
+  std::printf("\n");
+  budget.found();
 }
 
 }  // namespace

@@ -240,3 +240,17 @@ Limit random_limit(Random &random, const Plan &plan) {
   if (!plan.links.empty() && random.one_in(2)) scale = random.any_of(plan.links).longest;
   return {from, to, std::clamp<Wide>(random.from_to(-scale / 2, 2 * scale), -most_weight, most_weight)};
 }
+
+std::uint32_t edge_number(Random &random, std::uint32_t now) {
+  static const std::vector<std::uint32_t> named = {0, 1, 2, 24, 32, 36, 64, 1024, 1000000, std::uint32_t(-1000000), 0x7fffffff, 0x80000000, 0xffffffff};
+  switch (random.below(6)) {
+    case 0: return now + 1;
+    case 1: return now - 1;
+    case 2: return std::uint32_t(random.next());
+    case 3: return now ^ 1u << random.below(32);
+    default: {
+      const std::uint32_t one = random.any_of(named);
+      return one + random.below(3) - 1;
+    }
+  }
+}

@@ -7,5 +7,8 @@
 // A plan of some shape with at most these points, limits and links (and at most document 01's).
 Plan random_plan(Random &random, std::uint32_t points = most_points, std::uint32_t limits = most_limits, std::uint32_t links = most_links);
 
+// A number beside one that the paper names, or beside `now`, or any: what damaged.cpp and writing.cpp put in a field's place.
+std::uint32_t edge_number(Random &random, std::uint32_t now);
+
 // A limit between points of the plan, at the plan's own scale or now and then at the ends of the range.
 Limit random_limit(Random &random, const Plan &plan);

@@ -82,13 +82,6 @@ struct Shrink {
     return any;
   }
 
-  static std::vector<Wide> smaller_numbers(Wide number) {
-    std::vector<Wide> list;
-    for (Wide candidate : {Wide(0), number / 2, number - number / 4, number > 0 ? number - 1 : number + 1})
-      if (std::abs(candidate) < std::abs(number)) list.push_back(candidate);
-    return list;
-  }
-
   bool smaller_weights() {
     bool any = false;
     Plan plan = reading().plan;
@@ -210,6 +203,13 @@ struct Shrink {
 };
 
 }  // namespace
+
+std::vector<Wide> smaller_numbers(Wide number) {
+  std::vector<Wide> list;
+  for (Wide candidate : {Wide(0), number / 2, number - number / 4, number > 0 ? number - 1 : number + 1})
+    if (std::abs(candidate) < std::abs(number)) list.push_back(candidate);
+  return list;
+}
 
 Case smallest(const Case &lent) {
   Shrink shrink{lent};

@@ -19,3 +19,10 @@ uint64_t post_add(const uint8_t *file, size_t file_len, uint32_t x, uint32_t y, 
                   int32_t *open, size_t open_len, int64_t *scratch, size_t scratch_len) {
   return sweep::add(file, file_len, x, y, w, strict, strict_len, open, open_len, scratch, scratch_len);
 }
+
+uint64_t post_write(uint32_t n, const uint32_t *from, size_t from_len, const uint32_t *to, size_t to_len, const int32_t *weight,
+                    size_t weight_len, const uint32_t *act, size_t act_len, const uint32_t *con, size_t con_len, const uint32_t *shortest,
+                    size_t shortest_len, const uint32_t *longest, size_t longest_len, uint8_t *buffer, size_t buffer_len) {
+  return sweep::write(n, from, from_len, to, to_len, weight, weight_len, act, act_len, con, con_len, shortest, shortest_len, longest,
+                      longest_len, buffer, buffer_len);
+}

@@ -1,8 +1,10 @@
-// Judge by sweeps over two tables, and by spreading, as a C++ programmer would write them for speed. Written apart from reference.cpp and sharing nothing
-// with it: the file is read where it lies, a sweep joins by middle, from, to, and sums are kept in the cell's own type.
+// Judge by sweeps over two tables, and by spreading, and Write, as a C++ programmer would write them for speed. Written apart from reference.cpp
+// and sharing nothing with it: the file is read where it lies, a sweep joins by middle, from, to, and sums are kept in the cell's own type.
 #include "sweep.hpp"
 
 #include <algorithm>
+#include <cstdint>
+#include <cstring>
 #include <limits>
 
 namespace sweep {
@@ -31,10 +33,25 @@ struct View {  // the file where it lies
   }
 };
 
+struct LinkFields { std::uint32_t a, c, l, u; };
+
 std::uint64_t refuse(std::uint32_t code, std::size_t place = 0) { return code | std::uint64_t(place) << 32; }
 
 bool fits(std::uint32_t x, std::uint32_t y, std::int32_t w, std::size_t n) {
   return x < n && y < n && w >= -1000000 && w <= 1000000;
+}
+
+// Codes 7 and 8 by the links' order; `link` gives the fields of the i-th.
+template <class Links>
+std::uint64_t refuse_links(std::size_t k, std::size_t n, const Links &link) {
+  std::uint64_t ends = 0;  // a bit for each contingent point met
+  for (std::size_t i = 0; i < k; ++i) {
+    const auto [a, c, l, u] = link(i);
+    if (a >= n || c >= n || a == c || c == 0 || l == 0 || l >= u || u > 1000000) return refuse(7, i);
+    if (ends >> c & 1) return refuse(8, i);
+    ends |= std::uint64_t(1) << c;
+  }
+  return 0;
 }
 
 // Codes 1 to 8. `extra` stands for Add's limit.
@@ -52,16 +69,14 @@ std::uint64_t open_file(View &view, const std::uint8_t *file, std::size_t length
     if (!fits(limit.x, limit.y, limit.w, view.n)) return refuse(6, i);
   }
   if (extra && !fits(extra->x, extra->y, extra->w, view.n)) return refuse(6, view.m);
-  std::uint64_t ends = 0;  // a bit for each contingent point met
-  for (std::size_t i = 0; i < view.k; ++i) {
+  return refuse_links(view.k, view.n, [&](std::size_t i) {
     const std::size_t at = links + 16 * i;
-    const std::uint32_t a = view.field(at), c = view.field(at + 4), l = view.field(at + 8), u = view.field(at + 12);
-    if (a >= view.n || c >= view.n || a == c || c == 0 || l == 0 || l >= u || u > 1000000) return refuse(7, i);
-    if (ends >> c & 1) return refuse(8, i);
-    ends |= std::uint64_t(1) << c;
-  }
-  return 0;
+    return LinkFields{view.field(at), view.field(at + 4), view.field(at + 8), view.field(at + 12)};
+  });
 }
+
+// The machines here are little-endian, as the file is. Byte by byte would take longer: g++ does not make one store of four here.
+void put(std::uint8_t *at, std::uint32_t field) { std::memcpy(at, &field, sizeof field); }
 
 // Two tables of one cell type. `top` is the greatest cell a controllable plan can have; what is above it is never stored, what is below
 // -top is stored as the floor, which only an uncontrollable plan reaches. So no sum leaves the type.
@@ -386,6 +401,41 @@ std::uint64_t add(const std::uint8_t *file, std::size_t file_len, std::uint32_t 
   }
   std::fill_n(scratch, 2 * cells, 0);
   return code;
+}
+
+std::uint64_t write(std::uint32_t n, const std::uint32_t *from, std::size_t m, const std::uint32_t *to, std::size_t to_len,
+                    const std::int32_t *weight, std::size_t weight_len, const std::uint32_t *act, std::size_t k, const std::uint32_t *con,
+                    std::size_t con_len, const std::uint32_t *shortest, std::size_t shortest_len, const std::uint32_t *longest,
+                    std::size_t longest_len, std::uint8_t *buffer, std::size_t buffer_len) {
+  if (n - 1 >= 64) return 3;
+  if (m > 1024 || k > 32) return 4;
+  if (to_len != m || weight_len != m || con_len != k || shortest_len != k || longest_len != k) return 5;
+  for (std::size_t i = 0; i < m; ++i)
+    if (!fits(from[i], to[i], weight[i], n)) return refuse(6, i);
+  const auto link = [&](std::size_t i) { return LinkFields{act[i], con[i], shortest[i], longest[i]}; };
+  if (const auto refused = refuse_links(k, n, link)) return refused;
+  const std::size_t links = 24 + 12 * m;
+  if (buffer_len < links + 16 * k) return 9;
+  put(buffer, 1);
+  put(buffer + 4, n);
+  put(buffer + 8, std::uint32_t(m));
+  put(buffer + 12, std::uint32_t(k));
+  put(buffer + 16, 24);
+  put(buffer + 20, std::uint32_t(links));
+  for (std::size_t i = 0; i < m; ++i) {
+    std::uint8_t *const at = buffer + 24 + 12 * i;
+    put(at, from[i]);
+    put(at + 4, to[i]);
+    put(at + 8, std::uint32_t(weight[i]));
+  }
+  for (std::size_t i = 0; i < k; ++i) {
+    std::uint8_t *const at = buffer + links + 16 * i;
+    put(at, act[i]);
+    put(at + 4, con[i]);
+    put(at + 8, shortest[i]);
+    put(at + 12, longest[i]);
+  }
+  return 0;
 }
 
 }  // namespace sweep

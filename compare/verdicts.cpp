@@ -46,12 +46,11 @@ bool differs(const Plan &plan) {
     try_without(plan.limits);
     try_without(plan.links);
   }
-  std::printf("DIFFERENCE: %s\n  RUL- says %s, the reference %s, spreading %s\n  found with seed %llu in round %llu\n", notation(plan).c_str(),
+  std::printf("DIFFERENCE: %s\n  RUL- says %s, the reference %s, spreading %s\n", notation(plan).c_str(),
               by_rul(plan) ? "controllable" : "uncontrollable",
               reference::settle(plan, most_weight).controllable ? "controllable" : "uncontrollable",
-              spreads(plan, reference::settle(plan, most_weight)) ? "the same with its tables" : "something else",
-              static_cast<unsigned long long>(budget.seed), static_cast<unsigned long long>(budget.done));
-  std::exit(1);
+              spreads(plan, reference::settle(plan, most_weight)) ? "the same with its tables" : "something else");
+  budget.found();
 }
 
 }  // namespace

@@ -9,8 +9,8 @@
  * WHAT IS LENT. A slice is a pointer and a length, and the length counts elements, not bytes. You lend it for the time
  * of the call: the call keeps no pointer, reads nothing outside the slices, and writes nothing unless this file says so
  * at that call. On your side:
- *   - the pointer is not NULL and is aligned for its type (4 bytes for int32_t, 8 for int64_t), also where the length
- *     is 0;
+ *   - the pointer is not NULL and is aligned for its type (4 bytes for int32_t and uint32_t, 8 for int64_t), also where
+ *     the length is 0;
  *   - all the elements it promises are there and have been written once;
  *   - nobody writes them while the call runs. Slices that are only read may overlap. A slice that a call may write
  *     overlaps no other slice of that call, and nobody else reads it while the call runs.
@@ -57,13 +57,15 @@ enum post_code {
     POST_BAD_VERSION = 2,       /* the file's version is not 1 */
     POST_BAD_POINTS = 3,        /* the number of points is not 1 to 64 */
     POST_BAD_COUNTS = 4,        /* more than 1,024 limits or more than 32 links */
-    POST_BAD_LAYOUT = 5,        /* an offset or the file's length is not as laid down */
+    POST_BAD_LAYOUT = 5,        /* an offset or the file's length is not as laid down; post_write: lists that belong
+                                   together differ in length */
     POST_BAD_LIMIT = 6,         /* a limit out of range; place: index of the first; for the limit handed to post_add:
                                    the number of the file's limits */
     POST_BAD_LINK = 7,          /* a link out of range; place: its index */
     POST_REPEATED_LINK = 8,     /* a link repeats an earlier one's contingent point; place: the later index */
     POST_SHORT_ROOM = 9,        /* a lent slice is shorter than needed: n x n cells in each table, 2 x n x n in the
-                                   scratch of post_add, n times of post_earliest */
+                                   scratch of post_add, n times of post_earliest, the file's bytes in the buffer of
+                                   post_write */
     POST_HAS_LINKS = 10,        /* post_earliest: the plan has links */
     POST_NOT_CONTROLLABLE = 11, /* not for every choice of durations: whatever is done, there are durations within their
                                    bounds, known only once they have passed, for which a limit is broken; without
@@ -148,6 +150,29 @@ uint64_t post_earliest(const uint8_t *file, size_t file_len, int32_t *strict, si
  * room never change.
  */
 uint64_t post_add(const uint8_t *file, size_t file_len, uint32_t x, uint32_t y, int32_t w, int32_t *strict, size_t strict_len, int32_t *open, size_t open_len, int64_t *scratch, size_t scratch_len);
+
+/*
+ * Write: a plan file from lists, one for each field, into a buffer. Limit i says: point to[i] comes at most weight[i]
+ * seconds after point from[i]. Link i says: point con[i] comes shortest[i] to longest[i] seconds after point act[i],
+ * and nobody chooses when. With m the length of `from` and k that of `act`, the file has 24 + 12 x m + 16 x k bytes,
+ * its limits and links in the order of the lists.
+ *
+ *   0        written. The buffer begins with the file: every call here reads it as this plan. Bytes past the file stay
+ *   3        n is not 1 to 64
+ *   4        m is above 1,024, or k above 32
+ *   5        `to` or `weight` has another length than m, or `con`, `shortest` or `longest` another than k
+ *   6        a limit is out of range; place: index of the first
+ *   7, 8     a link is out of range, or repeats an earlier one's contingent point; place: index of the first for which
+ *            either is so, and 7 where both are
+ *   9        the buffer has fewer bytes than the file
+ *
+ * Refusals are looked for in that order; 1 and 2 never come. Lists of the fields of a file that post_judge does not
+ * refuse with 1 to 8 give that file again, byte for byte.
+ *
+ * Lent: seven lists, which are only read, and the buffer (buffer_len bytes), which may hold anything. The buffer
+ * changes with 0 only. 12,824 bytes are room for every plan.
+ */
+uint64_t post_write(uint32_t n, const uint32_t *from, size_t from_len, const uint32_t *to, size_t to_len, const int32_t *weight, size_t weight_len, const uint32_t *act, size_t act_len, const uint32_t *con, size_t con_len, const uint32_t *shortest, size_t shortest_len, const uint32_t *longest, size_t longest_len, uint8_t *buffer, size_t buffer_len);
 
 #ifdef __cplusplus
 }
