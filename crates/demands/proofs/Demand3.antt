@@ -36,7 +36,7 @@ use Rattle.plan.proofs.SoundFile.{good, add-exactly}
 use Rattle.demands.specs.Programs.{ourJudge, ourAdd}
 use Rattle.demands.specs.Demand3.{Desk, judged, taken, refused, nothing, OneFile, OneFilesTables, WholeOrder, Demand3}
 use Rattle.demands.proofs.FileCodes.{FileCode, add-code}
-use Rattle.demands.proofs.OneFile.{some-file}
+use Rattle.demands.proofs.OneFile.{some-file, only-file}
 use Rattle.demands.proofs.Demand2.{judged-done, not-done-refused, not-done-unclosed, not-short-done, demand2}
 
 plans : Demand3OfPlans version1
@@ -332,6 +332,7 @@ demand3 =
       each-taken = each-taken;
       end-tables = end-tables;
       one-file = some-file;
+      one-file-only = only-file;
       some-refused = λ s ts rs all strict weak d t u.
           let st = stands d in
           plans .some-refused (planOf s) ts rs all (tableOf version1 (planOf s .points) strict) (tableOf version1 (planOf s .points) weak)

@@ -1,13 +1,16 @@
--- One file with all of them exists: the bytes of the plan with the limits added and the file's own, each repeat left out. Assumes nothing.
-use mathlib.Core.Path.{_≡_, refl, ap}
-use mathlib.Core.Logic.{⊎-elim}
-use mathlib.Core.Bool.{Bool, true, false, cond, _&&_, false≢true}
-use mathlib.Core.List.{List, [], _∷_, _++_, List·Memᴰ, List·Memᴰ·head, List·Memᴰ·tail, List·Memᴰ·cases-cons, List·Memᴰ·append-cases}
-use Prim.Native.Nat.{ℕ, _≤_}
+-- One file with all of them exists: the bytes of the plan with the limits added and the file's own, each repeat left out. It exists only
+-- where a file has room for those that are left: no limit stands twice among them, and such a file has them all. Assumes nothing.
+use mathlib.Core.Path.{_≡_, refl, sym, ap, _∙_}
+use mathlib.Core.Logic.{_≢_, ⊎-elim}
+use mathlib.Core.Bool.{Bool, true, false, cond, _&&_, false≢true, or-true}
+use mathlib.Core.List.{List, [], _∷_, _++_, List·Memᴰ, List·Memᴰ·head, List·Memᴰ·tail, List·Memᴰ·cases-cons, List·Memᴰ·append-cases, Memᴰ·cast}
+use Prim.Native.Nat.{ℕ, suc, _≤_}
+use native.Mathlib.Omega.{arith}
 use lib.Dec.{eqb}
 use lib.ListN.{length}
+use lib.IntN.{ℤ, pos, negsuc}
 use lib.Signed.{leZ}
-use borrow.Author.Tests.{eqb-true}
+use borrow.Author.Tests.{eqb-true, eq-eqb, le-leb}
 use Rattle.whole.proofs.Order.{ints}
 use Rattle.whole.proofs.Bits.{leZ-true}
 use Rattle.rules.specs.Plan.{Limit, Plan, version1, LimitInRange, InRange}
@@ -15,10 +18,10 @@ use Rattle.rules.specs.declared.Answer.the-variants.{Done}
 use Rattle.rules.specs.Demands.{AllIn}
 use Rattle.plan.specs.Layout.{planOf, planBytes}
 use Rattle.plan.specs.File.{fileAnswer}
-use Rattle.plan.proofs.TestsMade.{both}
+use Rattle.plan.proofs.TestsMade.{both, and}
 use Rattle.plan.proofs.SoundFile.{good}
 use Rattle.plan.proofs.BytesOfPlans.{bytes-bytes, version1-narrow, bytes-read, bytes-sound}
-use Rattle.demands.specs.Demand3.{sameLimit, standsIn, different, SomeFile}
+use Rattle.demands.specs.Demand3.{OneFile, sameLimit, standsIn, different, SomeFile}
 
 -- ---- each repeat left out
 
@@ -36,6 +39,14 @@ same-limit m n e =
     let c : m .weight ≡ n .weight = omega (ints, leZ-true (m .weight) (n .weight) (q .1), leZ-true (n .weight) (m .weight) (p .1)) in
     λ i. record { from = a i; to = b i; weight = c i }
 
+-- and a limit is taken for itself
+same-self : (m : Limit) → sameLimit m m ≡ true
+same-self m = and (and (and (eq-eqb (m .from) (m .from) refl) (eq-eqb (m .to) (m .to) refl)) (least (m .weight))) (least (m .weight))
+  where
+    least : (z : ℤ) → leZ z z ≡ true
+    least (pos n) = le-leb n n (omega arith)
+    least (negsuc n) = le-leb n n (omega arith)
+
 -- a limit that stands in a list is a member
 stands-member : (m : Limit) (ms : List Limit) → standsIn m ms ≡ true → List·Memᴰ m ms
 stands-member m [] e = absurd (false≢true e)
@@ -44,6 +55,11 @@ stands-member m (n ∷ ns) e = by (sameLimit m n) refl (stands-member m ns)
     by : (t : Bool) → sameLimit m n ≡ t → (standsIn m ns ≡ true → List·Memᴰ m ns) → List·Memᴰ m (n ∷ ns)
     by true q later = List·Memᴰ·head (same-limit m n q)
     by false q later = List·Memᴰ·tail (later (rw q at e))
+
+-- and a member stands in it
+member-stands : {m : Limit} {ms : List Limit} → List·Memᴰ m ms → standsIn m ms ≡ true
+member-stands (List·Memᴰ·head {x} e) = rw (e, same-self x)
+member-stands (List·Memᴰ·tail h) = rw (member-stands h, or-true)
 
 -- no limit is lost
 none-lost : (ms : List Limit) → AllIn ms (different ms)
@@ -64,6 +80,41 @@ none-new (x ∷ xs) m h = by (standsIn x xs) (none-new xs m) h
     by : (t : Bool) → (List·Memᴰ m (different xs) → List·Memᴰ m xs) → List·Memᴰ m (cond t (different xs) (x ∷ different xs)) → List·Memᴰ m (x ∷ xs)
     by true was k = List·Memᴰ·tail (was k)
     by false was k = ⊎-elim (λ e. List·Memᴰ·head e) (λ t. List·Memᴰ·tail (was t)) (List·Memᴰ·cases-cons k)
+
+-- ---- none of them twice
+
+-- a list without one of its members: one shorter, with all the others
+record Without {A : Type 0} (x : A) (l : List A) : Type 0 where
+  rest : List A
+  shorter : length l ≡ suc (length rest)
+  others : (y : A) → List·Memᴰ y l → y ≢ x → List·Memᴰ y rest
+
+without : {A : Type 0} {x : A} {l : List A} → List·Memᴰ x l → Without x l
+without (List·Memᴰ·head {xs} e) =
+    record { rest = xs; shorter = refl; others = λ y h ne. ⊎-elim (λ q. absurd (ne (q ∙ sym e))) (λ t. t) (List·Memᴰ·cases-cons h) }
+without (List·Memᴰ·tail {x = z} h) =
+    let w = without h in
+    record {
+      rest = z ∷ w .rest;
+      shorter = ap suc (w .shorter);
+      others = λ y k ne. ⊎-elim (λ q. List·Memᴰ·head q) (λ t. List·Memᴰ·tail (w .others y t ne)) (List·Memᴰ·cases-cons k);
+    }
+
+-- each limit stands once among the different ones, so a list that has them all is no shorter
+no-more : (ms ns : List Limit) → AllIn (different ms) ns → length (different ms) ≤ length ns
+unfolding different
+no-more [] ns h = omega arith
+no-more (x ∷ xs) ns h = by (standsIn x xs) refl (no-more xs) h
+  where
+    once : standsIn x xs ≡ false → (y : Limit) → List·Memᴰ y (different xs) → y ≢ x
+    once q y l e = false≢true (sym q ∙ member-stands (none-new xs x (Memᴰ·cast (sym e) l)))
+
+    by : (t : Bool) → standsIn x xs ≡ t → ((ls : List Limit) → AllIn (different xs) ls → length (different xs) ≤ length ls)
+        → AllIn (cond t (different xs) (x ∷ different xs)) ns → length (cond t (different xs) (x ∷ different xs)) ≤ length ns
+    by true q later k = later ns k
+    by false q later k =
+        let w : Without x ns = without (k x (List·Memᴰ·head refl)) in
+        omega (arith, later (w .rest) (λ y l. w .others y (k y (List·Memᴰ·tail l)) (once q y l)))
 
 -- ---- the file
 
@@ -96,3 +147,9 @@ some-file s all e in-range few =
         none-less = rw read (none-lost every);
       };
     }
+
+-- and only there: a sound file has no more limits
+pub only-file : (s : List ℕ) (all : List Limit) (one : List ℕ) → OneFile s all one → length (different (all ++ planOf s .limits)) ≤ version1 .limits
+only-file s all one f =
+    let every : List Limit = all ++ planOf s .limits in
+    omega (arith, good one (f .sound) .ranges .limits, no-more every (planOf one .limits) (λ m h. f .none-less m (none-new every m h)))
