@@ -93,8 +93,8 @@ pub record Demand3 (Judge : AJudge) (Add : AnAdd) : Type 0 where
       → ((m : Limit) → List·Memᴰ m all → LimitInRange version1 (planOf s .points) m)
       → length (different (all ++ planOf s .limits)) ≤ version1 .limits → SomeFile s all
   -- and only there
-  pub one-file-only : (s : List ℕ) (all : List Limit) (one : List ℕ) → OneFile s all one → length (different (all ++ planOf s .limits))
-      ≤ version1 .limits
+  pub one-file-only : (s : List ℕ) (all : List Limit) (one : List ℕ) → OneFile s all one
+      → length (different (all ++ planOf s .limits)) ≤ version1 .limits
   -- if it is not controllable, every order that tries them all meets an 11
   pub some-refused : (s : List ℕ) (ts rs all : List Limit) (strict weak : List ℤ) → Desk Judge Add s ts rs strict weak
       → AllTried all ts rs → Uncontrollable (withLimits (planOf s) all) → rs ≢ []
