@@ -20,7 +20,7 @@ use Rattle.plan.specs.Layout.{planOf, planBytes}
 use Rattle.plan.specs.File.{fileAnswer}
 use Rattle.plan.proofs.TestsMade.{both, and}
 use Rattle.plan.proofs.SoundFile.{good}
-use Rattle.plan.proofs.BytesOfPlans.{bytes-bytes, version1-narrow, bytes-read, bytes-sound}
+use Rattle.plan.proofs.BytesOfPlans.{bytes-bytes, version1-narrow, range-fits, bytes-read, bytes-sound}
 use Rattle.demands.specs.Demand3.{OneFile, sameLimit, standsIn, different, SomeFile}
 
 -- ---- each repeat left out
@@ -135,7 +135,7 @@ some-file s all e in-range few =
       link = g .link;
       unshared = g .unshared;
     } in
-    let read : planOf (planBytes p) ≡ p = bytes-read version1 version1-narrow p ranges in
+    let read : planOf (planBytes p) ≡ p = bytes-read p (range-fits version1 version1-narrow p ranges) in
     record {
       file = planBytes p;
       bytes = bytes-bytes p;

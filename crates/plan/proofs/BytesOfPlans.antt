@@ -3,6 +3,7 @@
 -- Assumes nothing.
 use mathlib.Core.Path.{_≡_, refl, sym, ap, _∙_}
 use mathlib.Core.Logic.{⊎-elim}
+use mathlib.Core.Bool.{true}
 use mathlib.Core.List.{List, [], _∷_, _++_, flatMap, List·Memᴰ, List·Memᴰ·head, List·Memᴰ·tail, List·Memᴰ·cases-cons, List·Memᴰ·not-nil}
 use Prim.Native.Nat.{ℕ, zero, suc, _+_, _*_, _≤_, _<_}
 use native.Mathlib.Nat.{zero-add}
@@ -18,11 +19,12 @@ use Rattle.rules.specs.Plan.{Limit, Link, Plan, Ranges, version1, InRange}
 use Rattle.rules.specs.declared.Answer.the-variants.{Done}
 use Rattle.plan.specs.declared.Header.{Header}
 use Rattle.plan.specs.Layout.{headOf, limitOffset, linkOffset, limitAt, linkAt, records, planOf}
-use Rattle.plan.specs.Layout.{headFields, limitFields, linkFields, planFields, planBytes}
-use Rattle.plan.specs.File.{PlanFile, fileAnswer}
+use Rattle.plan.specs.Layout.{headFields, limitFields, linkFields, planFields, planBytes, FitsFields}
+use Rattle.plan.specs.File.{laidOut, formAnswer, planAnswer, PlanFile, fileAnswer}
 use Rattle.plan.proofs.Records.{records-length}
 use Rattle.plan.proofs.Stretches.{three-parts, stretch-join, stretch-all, flat-length, flat-records, flat-read}
-use Rattle.plan.proofs.SoundFile.{sound-exactly}
+use Rattle.plan.proofs.PlanExactly.{plan-exactly}
+use Rattle.plan.proofs.SoundFile.{form-exactly, laid-exactly, sound-exactly}
 
 -- ---- how many bytes
 
@@ -117,10 +119,9 @@ link-known a b e = ap linkOf e
 
 -- ---- numbers that fit into fields
 
--- ranges whose numbers do: 32 bits, with a sign for a weight
+-- ranges whose numbers do
 pub record Narrow (r : Ranges) : Type 0 where
   pub points : r .points < 4_294_967_296
-  -- the header holds the offset of the links
   pub limits : limitOffset (r .limits) < 4_294_967_296
   pub links : r .links < 4_294_967_296
   pub weight : r .weight < 2_147_483_648
@@ -135,7 +136,17 @@ weight-within w (pos n) l h = leb→le n w (h .le)
 weight-within zero (negsuc n) l h = absurd (l .le)
 weight-within (suc w) (negsuc n) l h = omega (arith, leb→le n w (l .le))
 
--- every number of a list does
+pub range-fits : (r : Ranges) → Narrow r → (p : Plan) → InRange r p → FitsFields p
+range-fits r narrow p h =
+    record {
+      points = omega arith;
+      limits = omega arith;
+      links = omega arith;
+      limit = λ m i. omega (arith, h .limit m i, weight-within (r .weight) (m .weight) (h .limit m i .least) (h .limit m i .most));
+      link = λ k i. omega (arith, h .link k i);
+    }
+
+-- every number of a list fits
 abbrev Words : List ℕ → Type 0
 Words [] = Unit {0}
 Words (w ∷ ws) = (w < 4_294_967_296) × Words ws
@@ -167,17 +178,14 @@ words-read ws fit =
 
 -- ---- a plan's bytes are read as the plan
 
-module _ (r : Ranges) (narrow : Narrow r) (p : Plan) (h : InRange r p) where
-  weight-fits : (m : Limit) → List·Memᴰ m (p .limits) → mag (m .weight) < 2_147_483_648
-  weight-fits m i = omega (arith, weight-within (r .weight) (m .weight) (h .limit m i .least) (h .limit m i .most))
-
+module _ (p : Plan) (fit : FitsFields p) where
   plan-words : Words (planFields p)
   unfolding planFields
   plan-words =
       words-append (headPart p ++ flatMap limitFields (p .limits)) (flatMap linkFields (p .links))
       (words-append (headPart p) (flatMap limitFields (p .limits)) (omega arith)
-      (words-flat limitFields (p .limits) (λ m i. omega (arith, h .limit m i, bits-fit (m .weight) (weight-fits m i)))))
-      (words-flat linkFields (p .links) (λ k i. omega (arith, h .link k i)))
+      (words-flat limitFields (p .limits) (λ m i. omega (arith, fit .limit m i, bits-fit (m .weight) (fit .limit m i .2)))))
+      (words-flat linkFields (p .links) (λ k i. omega (arith, fit .link k i)))
 
   -- header, limits and links lie where they are read
   plan-parts : (headPart p ≡ records (word (planBytes p)) 0 6)
@@ -202,7 +210,7 @@ module _ (r : Ranges) (narrow : Narrow r) (p : Plan) (h : InRange r p) where
   limits-read =
       let s = planBytes p in
       flat-read limitFields 3 (limitAt s) (word s) 6 (limit-part s (bytes-bytes p)) (λ x. refl) (p .limits)
-      (λ x i j e. limit-known (limitAt s j) x (limit-bits s (bytes-bytes p) j) (signed-bits (x .weight) (weight-fits x i)) e)
+      (λ x i j e. limit-known (limitAt s j) x (limit-bits s (bytes-bytes p) j) (signed-bits (x .weight) (fit .limit x i .2)) e)
       0
       (plan-parts .1)
 
@@ -216,25 +224,29 @@ module _ (r : Ranges) (narrow : Narrow r) (p : Plan) (h : InRange r p) where
       (plan-parts .2)
 
 -- reading a plan's bytes gives the plan
-pub bytes-read : (r : Ranges) → Narrow r → (p : Plan) → InRange r p → planOf (planBytes p) ≡ p
+pub bytes-read : (p : Plan) → FitsFields p → planOf (planBytes p) ≡ p
 unfolding planOf
-bytes-read r narrow p h = rw (bytes-head r narrow p h, limits-read r narrow p h, links-read r narrow p h)
+bytes-read p fit = rw (bytes-head p fit, limits-read p fit, links-read p fit)
+
+-- and what is answered to them is codes 3 to 8 of the plan
+pub bytes-answer : (p : Plan) → FitsFields p → fileAnswer (planBytes p) ≡ planAnswer version1 true p
+unfolding fileAnswer
+bytes-answer p fit =
+    let s = planBytes p in
+    let h = headOf s in
+    let e = bytes-head p fit in
+    let room : 24 ≤ length s = omega (arith, bytes-size p) in
+    let form : formAnswer (length s) h ≡ Done = form-exactly (length s) h .1 (room, rw e) in
+    let laid : laidOut (length s) h ≡ true =
+    laid-exactly (length s) h .1 (record { limits-at = rw e; links-at = rw e; exact = rw e (bytes-size p) }) in
+    rw (form, laid, bytes-read p fit)
 
 -- a plan in range has a plan file's bytes
-pub bytes-plan-file : (p : Plan) → InRange version1 p → PlanFile (planBytes p)
-bytes-plan-file p h =
-    let e = bytes-head version1 version1-narrow p h in
-    record {
-      header = omega (arith, bytes-size p);
-      version = rw e;
-      limits-at = rw e;
-      links-at = rw e;
-      size = rw e (bytes-size p);
-      ranges = rw (bytes-read version1 version1-narrow p h) h;
-    }
-
 pub bytes-sound : (p : Plan) → InRange version1 p → fileAnswer (planBytes p) ≡ Done
-bytes-sound p h = sound-exactly (planBytes p) .1 (bytes-plan-file p h)
+bytes-sound p h = bytes-answer p (range-fits version1 version1-narrow p h) ∙ plan-exactly version1 true p .1 (refl, h)
+
+pub bytes-plan-file : (p : Plan) → InRange version1 p → PlanFile (planBytes p)
+bytes-plan-file p h = sound-exactly (planBytes p) .0 (bytes-sound p h)
 
 -- ---- a plan file is the bytes of its plan
 

@@ -42,7 +42,7 @@ pub record HeadOk (size : ℕ) (h : Header) : Type 0 where
   pub exact : size ≡ linkOffset (h .limits) (h .links)
 
 -- 1 and 2 are not answered exactly where there are 24 bytes and the version is 1
-form-exactly : (size : ℕ) (h : Header) → (formAnswer size h ≡ Done) ↔ ((24 ≤ size) × (h .version ≡ 1))
+pub form-exactly : (size : ℕ) (h : Header) → (formAnswer size h ≡ Done) ↔ ((24 ≤ size) × (h .version ≡ 1))
 form-exactly size h = (there, back)
   where
     there : formAnswer size h ≡ Done → (24 ≤ size) × (h .version ≡ 1)
@@ -61,7 +61,7 @@ pub record Laid (size : ℕ) (h : Header) : Type 0 where
   pub links-at : h .«links_at» ≡ limitOffset (h .limits)
   pub exact : size ≡ linkOffset (h .limits) (h .links)
 
-laid-exactly : (size : ℕ) (h : Header) → (laidOut size h ≡ true) ↔ Laid size h
+pub laid-exactly : (size : ℕ) (h : Header) → (laidOut size h ≡ true) ↔ Laid size h
 laid-exactly size h = (there, back)
   where
     there : laidOut size h ≡ true → Laid size h

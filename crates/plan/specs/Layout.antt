@@ -1,8 +1,9 @@
 -- Document 01, "Plan file": where the header's fields and the records lie, the plan that the bytes hold, and the bytes of a plan.
 -- Assumes nothing.
-use mathlib.Core.List.{List, [], _∷_, _++_, flatMap}
-use Prim.Native.Nat.{ℕ, zero, suc, _+_, _*_}
+use mathlib.Core.List.{List, [], _∷_, _++_, flatMap, List·Memᴰ}
+use Prim.Native.Nat.{ℕ, zero, suc, _+_, _*_, _<_}
 use lib.ListN.{length}
+use lib.Signed.{mag}
 use Rattle.rules.specs.Plan.{Limit, Link, Plan}
 use Rattle.plan.specs.declared.Header.{Header}
 use Rattle.fields.specs.Bytes.{wordAt, signedAt, wordBytes, bitsOf}
@@ -87,3 +88,13 @@ planFields p =
 -- the bytes of a plan: "All fields are 32-bit, little-endian."
 unfoldable pub planBytes : Plan → List ℕ
 planBytes p = flatMap wordBytes (planFields p)
+
+-- "All fields are 32-bit": a plan whose numbers fit into them, with a sign for a weight
+pub record FitsFields (p : Plan) : Type 0 where
+  pub points : p .points < 4_294_967_296
+  -- the header holds the offset of the links, and so the number of limits
+  pub limits : limitOffset (length (p .limits)) < 4_294_967_296
+  pub links : length (p .links) < 4_294_967_296
+  pub limit : (m : Limit) → List·Memᴰ m (p .limits) → (m .from < 4_294_967_296) × (m .to < 4_294_967_296) × (mag (m .weight) < 2_147_483_648)
+  pub link : (k : Link) → List·Memᴰ k (p .links)
+      → (k .act < 4_294_967_296) × (k .con < 4_294_967_296) × (k .short < 4_294_967_296) × (k .long < 4_294_967_296)

@@ -12,15 +12,15 @@ use borrow.Author.Tests.{le-leb, eq-eqb}
 use Rattle.rules.specs.Plan.{Limit, Link, Plan, version1, InRange}
 use Rattle.rules.specs.declared.Answer.{Answer}
 use Rattle.rules.specs.declared.Answer.the-variants.{Done, ShortRoom}
-use Rattle.answers.specs.Order.{unless}
+use Rattle.answers.specs.Order.{_then_, unless}
 use Rattle.answers.proofs.CodeZero.{then-done, done-then, done-unless}
 use Rattle.fields.specs.Bytes.{AllBytes}
-use Rattle.plan.specs.Layout.{records, planOf}
+use Rattle.plan.specs.Layout.{records, planOf, FitsFields}
 use Rattle.plan.specs.File.{planAnswer, fileAnswer, PlanFile}
 use Rattle.plan.proofs.TestsMade.{and}
 use Rattle.plan.proofs.SoundFile.{sound-exactly}
 use Rattle.plan.proofs.Stretches.{stretch-all}
-use Rattle.plan.proofs.BytesOfPlans.{bytes-bytes, version1-narrow, bytes-read, bytes-plan-file, bytes-sound, read-bytes}
+use Rattle.plan.proofs.BytesOfPlans.{bytes-bytes, version1-narrow, range-fits, bytes-read, bytes-answer, bytes-plan-file, bytes-sound, read-bytes}
 use Rattle.writing.specs.PlanLists.{Lists, limitIn, linkIn, listedPlan, evenLists, Hold, listsOf}
 use Rattle.writing.specs.Wrote.{fileOf, writeAnswer, Wrote}
 use Rattle.writing.specs.RoundTrips.{Reads, sizeOf, RoundTrips}
@@ -92,13 +92,19 @@ ranges-written l room e g h =
     done-then (planAnswer version1 (evenLists l) (listedPlan l)) (unless fits ShortRoom)
     (plan-exactly version1 (evenLists l) (listedPlan l) .1 (e, g)) (done-unless fits ShortRoom (le-leb (length (fileOf l)) room h))
 
+-- "It refuses what the reader refuses, with the same codes"
+read-refused : (l : Lists) (room : ℕ) → FitsFields (listedPlan l) → evenLists l ≡ true
+    → writeAnswer l room ≡ (fileAnswer (fileOf l) then unless (leb (length (fileOf l)) room) ShortRoom)
+unfolding writeAnswer
+read-refused l room fit e = rw (bytes-answer (listedPlan l) fit, e)
+
 -- "Reading what was written gives the same plan"
 written-read : (l : Lists) (before after : List ℕ) → Wrote l before Done after → Reads (take (sizeOf l) after) (listedPlan l)
 written-read l before after w =
     let p = listedPlan l in
     let g : InRange version1 p = written-ranges l (length before) (sym (w .answer)) .1 in
     rw (w .written refl, take-at (fileOf l) (drop (length (fileOf l)) before) (sizeOf l) (file-size l))
-    (record { sound = bytes-sound p g; plan = bytes-read version1 version1-narrow p g })
+    (record { sound = bytes-sound p g; plan = bytes-read p (range-fits version1 version1-narrow p g) })
 
 -- "writing what was read gives the same bytes"
 read-written : (s : List ℕ) → AllBytes s → fileAnswer s ≡ Done → (l : Lists) → Hold l (planOf s)
@@ -113,6 +119,7 @@ read-written s b e l h before a after room w =
 pub round-trips : RoundTrips
 round-trips =
     record {
+      refuses-what-the-reader-refuses = read-refused;
       reading-what-was-written = written-read;
       writing-what-was-read = read-written;
       lists-of-a-plan = lists-hold;
