@@ -69,13 +69,13 @@ words-bytes (w ∷ ws) (suc (suc (suc (suc i)))) = words-bytes ws i
 
 -- ---- bits
 
--- the bits of a number from -2^31 to 2^31 - 1 are 32
-pub bits-fit : (z : ℤ) → mag z < 2_147_483_648 → bitsOf z < 4_294_967_296
+-- the bits of a number are 32
+pub bits-fit : (z : ℤ) → mag z < 4_294_967_296 → bitsOf z < 4_294_967_296
 unfolding bitsOf
 bits-fit (pos n) h = omega arith
 bits-fit (negsuc n) h = omega arith
 
--- and they are read as the number
+-- and those of a number from -2^31 to 2^31 - 1 are read as it
 pub signed-bits : (z : ℤ) → mag z < 2_147_483_648 → signedOf (bitsOf z) ≡ z
 unfolding signedOf bitsOf
 signed-bits (pos n) h = rw (lt-ltb n 2_147_483_648 h)

@@ -35,8 +35,8 @@ headPart p = headFields (p .points) (length (p .limits)) (length (p .links))
 fields-length : (p : Plan) → length (planFields p) ≡ 6 + 3 * length (p .limits) + 4 * length (p .links)
 unfolding planFields
 fields-length p =
-    length-append (headPart p ++ flatMap limitFields (p .limits)) (flatMap linkFields (p .links))
-    ∙ omega (arith, flat-length limitFields 3 (λ m. refl) (p .limits), flat-length linkFields 4 (λ k. refl) (p .links))
+    rw (length-append, length-append)
+    (omega (arith, flat-length limitFields 3 (λ m. refl) (p .limits), flat-length linkFields 4 (λ k. refl) (p .links)))
 
 pub words-length : (ws : List ℕ) → length (flatMap wordBytes ws) ≡ 4 * length ws
 unfolding wordBytes
@@ -184,7 +184,7 @@ module _ (p : Plan) (fit : FitsFields p) where
   plan-words =
       words-append (headPart p ++ flatMap limitFields (p .limits)) (flatMap linkFields (p .links))
       (words-append (headPart p) (flatMap limitFields (p .limits)) (omega arith)
-      (words-flat limitFields (p .limits) (λ m i. omega (arith, fit .limit m i, bits-fit (m .weight) (fit .limit m i .2)))))
+      (words-flat limitFields (p .limits) (λ m i. omega (arith, fit .limit m i, bits-fit (m .weight) (omega (arith, fit .limit m i .2))))))
       (words-flat linkFields (p .links) (λ k i. omega (arith, fit .link k i)))
 
   -- header, limits and links lie where they are read

@@ -6,6 +6,7 @@ pub mod Records
 pub mod Stretches
 pub mod TestsDecide
 pub mod PlanExactly
+pub mod PlanCodes
 pub mod SoundFile
 pub mod BytesOfPlans
 pub mod CaseB

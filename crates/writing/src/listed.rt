@@ -1,4 +1,4 @@
-// Limit i and link i of lent lists; codes 3 to 8 of the plan that the lists hold.
+// Limit i and link i of lent lists; codes 6, 7 and 8 of the plan that the lists hold.
 ghost use mathlib.Core.Path.{_≡_};
 ghost use mathlib.Core.List.{[]};
 ghost use Prim.Native.Nat.{_≤_, _<_};

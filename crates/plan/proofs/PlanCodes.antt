@@ -1,0 +1,75 @@
+-- What holds of Done and of every refusal that a plan can get holds of its answer. Assumes nothing.
+use mathlib.Core.Bool.{Bool, true, false, cond}
+use mathlib.Core.List.{List, [], _∷_}
+use Prim.Native.Nat.{ℕ, suc}
+use lib.Dec.{eqb}
+use lib.ListN.{length}
+use Rattle.rules.specs.Plan.{Limit, Link, Plan, Ranges}
+use Rattle.rules.specs.Answers.{codeOf}
+use Rattle.rules.specs.declared.Answer.{Answer}
+use Rattle.rules.specs.declared.Answer.the-variants.{Done, BadPoints, BadCounts, BadLayout, BadLimit, BadLink, RepeatedLink}
+use Rattle.answers.specs.Order.{_then_, unless}
+use Rattle.plan.specs.File.{pointsFit, countsFit, countsAnswer, limitFits, linkFits, fresh, limitPlace, linkPlace}
+use Rattle.plan.specs.File.{limitAnswer, limitsAnswer, linkAnswer, linksAnswer, frontAnswer, backAnswer, planAnswer}
+
+pub record Refusals (P : Answer → Type 0) : Type 0 where
+  pub done : P Done
+  pub points : P BadPoints
+  pub counts : P BadCounts
+  pub layout : P BadLayout
+  pub limit : (i : ℕ) → P (BadLimit i)
+  pub link : (i : ℕ) → P (BadLink i)
+  pub repeated : (i : ℕ) → P (RepeatedLink i)
+
+pub then-holds : (P : Answer → Type 0) (a b : Answer) → P a → P b → P (a then b)
+then-holds P a b h k = by (eqb (codeOf a) 0)
+  where
+    by : (t : Bool) → P (cond t b a)
+    by true = k
+    by false = h
+
+pub unless-holds : (P : Answer → Type 0) (t : Bool) (a : Answer) → P Done → P a → P (unless t a)
+unless-holds P true a d h = d
+unless-holds P false a d h = h
+
+module _ (P : Answer → Type 0) (each : Refusals P) (r : Ranges) where
+  counts-hold : (n m k : ℕ) (laid : Bool) → P (countsAnswer r n m k laid)
+  unfolding countsAnswer
+  counts-hold n m k laid =
+      let four = unless (countsFit r m k) BadCounts in
+      let five = unless laid BadLayout in
+      then-holds P (unless (pointsFit r n) BadPoints) (four then five) (unless-holds P (pointsFit r n) BadPoints (each .done) (each .points))
+      (then-holds P four five (unless-holds P (countsFit r m k) BadCounts (each .done) (each .counts))
+      (unless-holds P laid BadLayout (each .done) (each .layout)))
+
+  pub limit-holds : (n i : ℕ) (m : Limit) → P (limitAnswer r n i m)
+  limit-holds n i m = unless-holds P (limitFits r n m) (BadLimit (limitPlace i)) (each .done) (each .limit (limitPlace i))
+
+  limits-hold : (n i : ℕ) (ms : List Limit) → P (limitsAnswer r n i ms)
+  limits-hold n i [] = each .done
+  limits-hold n i (m ∷ ms) = then-holds P (limitAnswer r n i m) (limitsAnswer r n (suc i) ms) (limit-holds n i m) (limits-hold n (suc i) ms)
+
+  links-hold : (n i : ℕ) (before ks : List Link) → P (linksAnswer r n i before ks)
+  links-hold n i before [] = each .done
+  links-hold n i before (k ∷ ks) =
+      let seven = unless (linkFits r n k) (BadLink (linkPlace i)) in
+      let eight = unless (fresh (k .con) before) (RepeatedLink (linkPlace i)) in
+      then-holds P (linkAnswer r n i before k) (linksAnswer r n (suc i) (k ∷ before) ks)
+      (then-holds P seven eight (unless-holds P (linkFits r n k) (BadLink (linkPlace i)) (each .done) (each .link (linkPlace i)))
+      (unless-holds P (fresh (k .con) before) (RepeatedLink (linkPlace i)) (each .done) (each .repeated (linkPlace i))))
+      (links-hold n (suc i) (k ∷ before) ks)
+
+  pub front-holds : (laid : Bool) (p : Plan) → P (frontAnswer r laid p)
+  unfolding frontAnswer
+  front-holds laid p =
+      let m = length (p .limits) in
+      let k = length (p .links) in
+      then-holds P (countsAnswer r (p .points) m k laid) (limitsAnswer r (p .points) 0 (p .limits)) (counts-hold (p .points) m k laid)
+      (limits-hold (p .points) 0 (p .limits))
+
+  pub back-holds : (p : Plan) → P (backAnswer r p)
+  back-holds p = links-hold (p .points) 0 [] (p .links)
+
+  pub plan-holds : (laid : Bool) (p : Plan) → P (planAnswer r laid p)
+  unfolding planAnswer
+  plan-holds laid p = then-holds P (frontAnswer r laid p) (backAnswer r p) (front-holds laid p) (back-holds p)
