@@ -1,20 +1,19 @@
 -- A file's own answer has a code of at most 8, with or without Add's limit; and only codes 6, 7 and 8 have a place. Assumes nothing.
 use mathlib.Core.Path.{refl}
-use mathlib.Core.Bool.{Bool, true, false, cond}
 use mathlib.Core.Logic.{inl, inr}
-use mathlib.Core.List.{List, [], _∷_}
-use Prim.Native.Nat.{ℕ, suc, _≤_}
+use mathlib.Core.List.{List}
+use Prim.Native.Nat.{ℕ, _≤_}
 use native.Mathlib.Omega.{arith}
 use lib.Dec.{leb, eqb}
 use lib.ListN.{length}
 use Rattle.rules.specs.declared.Answer.{Answer}
 use Rattle.rules.specs.declared.Answer.the-variants.{Done, FewBytes, BadVersion, BadPoints, BadCounts, BadLayout, BadLimit, BadLink, RepeatedLink, ShortRoom, HasLinks, NotControllable, NotClosed}
-use Rattle.rules.specs.Plan.{Limit, Link, Plan, Ranges, version1}
+use Rattle.rules.specs.Plan.{Limit, version1}
 use Rattle.rules.specs.Answers.{codeOf}
 use Rattle.answers.specs.Order.{_then_, unless}
 use Rattle.plan.specs.declared.Header.{Header}
 use Rattle.plan.specs.Layout.{headOf, planOf}
-use Rattle.plan.specs.File.{pointsFit, countsFit, laidOut, formAnswer, countsAnswer, limitFits, linkFits, fresh, limitPlace, linkPlace, limitAnswer, limitsAnswer, linkAnswer, linksAnswer, frontAnswer, backAnswer, planAnswer, fileFront, fileAnswer, addAnswer}
+use Rattle.plan.specs.File.{laidOut, formAnswer, limitAnswer, frontAnswer, backAnswer, planAnswer, fileFront, fileAnswer, addAnswer}
 use Rattle.plan.proofs.PlanCodes.{Refusals, then-holds, unless-holds, limit-holds, front-holds, back-holds, plan-holds}
 use Rattle.demands.specs.Demand1.{PlaceNamed}
 

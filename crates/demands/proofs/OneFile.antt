@@ -3,8 +3,8 @@
 use mathlib.Core.Path.{_≡_, refl, sym, ap, _∙_}
 use mathlib.Core.Logic.{_≢_, ⊎-elim}
 use mathlib.Core.Bool.{Bool, true, false, cond, _&&_, false≢true, or-true}
-use mathlib.Core.List.{List, [], _∷_, _++_, List·Memᴰ, List·Memᴰ·head, List·Memᴰ·tail, List·Memᴰ·cases-cons, List·Memᴰ·append-cases, Memᴰ·cast}
-use Prim.Native.Nat.{ℕ, suc, _≤_}
+use mathlib.Core.List.{List, [], _∷_, _++_, List·Memᴰ, List·Memᴰ·head, List·Memᴰ·tail, List·Memᴰ·cases-cons, List·Memᴰ·append-cases}
+use Prim.Native.Nat.{ℕ, _≤_}
 use native.Mathlib.Omega.{arith}
 use lib.Dec.{eqb}
 use lib.ListN.{length}
@@ -16,6 +16,7 @@ use Rattle.whole.proofs.Bits.{leZ-true}
 use Rattle.rules.specs.Plan.{Limit, Plan, version1, LimitInRange, InRange}
 use Rattle.rules.specs.declared.Answer.the-variants.{Done}
 use Rattle.rules.specs.Demands.{AllIn}
+use Rattle.rules.proofs.Different.{Different, no-longer}
 use Rattle.plan.specs.Layout.{planOf, planBytes}
 use Rattle.plan.specs.File.{fileAnswer}
 use Rattle.plan.proofs.TestsMade.{both, and}
@@ -83,38 +84,14 @@ none-new (x ∷ xs) m h = by (standsIn x xs) (none-new xs m) h
 
 -- ---- none of them twice
 
--- a list without one of its members: one shorter, with all the others
-record Without {A : Type 0} (x : A) (l : List A) : Type 0 where
-  rest : List A
-  shorter : length l ≡ suc (length rest)
-  others : (y : A) → List·Memᴰ y l → y ≢ x → List·Memᴰ y rest
-
-without : {A : Type 0} {x : A} {l : List A} → List·Memᴰ x l → Without x l
-without (List·Memᴰ·head {xs} e) =
-    record { rest = xs; shorter = refl; others = λ y h ne. ⊎-elim (λ q. absurd (ne (q ∙ sym e))) (λ t. t) (List·Memᴰ·cases-cons h) }
-without (List·Memᴰ·tail {x = z} h) =
-    let w = without h in
-    record {
-      rest = z ∷ w .rest;
-      shorter = ap suc (w .shorter);
-      others = λ y k ne. ⊎-elim (λ q. List·Memᴰ·head q) (λ t. List·Memᴰ·tail (w .others y t ne)) (List·Memᴰ·cases-cons k);
-    }
-
--- each limit stands once among the different ones, so a list that has them all is no shorter
-no-more : (ms ns : List Limit) → AllIn (different ms) ns → length (different ms) ≤ length ns
+different-once : (ms : List Limit) → Different (different ms)
 unfolding different
-no-more [] ns h = omega arith
-no-more (x ∷ xs) ns h = by (standsIn x xs) refl (no-more xs) h
+different-once [] = tt
+different-once (x ∷ xs) = by (standsIn x xs) refl (different-once xs)
   where
-    once : standsIn x xs ≡ false → (y : Limit) → List·Memᴰ y (different xs) → y ≢ x
-    once q y l e = false≢true (sym q ∙ member-stands (none-new xs x (Memᴰ·cast (sym e) l)))
-
-    by : (t : Bool) → standsIn x xs ≡ t → ((ls : List Limit) → AllIn (different xs) ls → length (different xs) ≤ length ls)
-        → AllIn (cond t (different xs) (x ∷ different xs)) ns → length (cond t (different xs) (x ∷ different xs)) ≤ length ns
-    by true q later k = later ns k
-    by false q later k =
-        let w : Without x ns = without (k x (List·Memᴰ·head refl)) in
-        omega (arith, later (w .rest) (λ y l. w .others y (k y (List·Memᴰ·tail l)) (once q y l)))
+    by : (t : Bool) → standsIn x xs ≡ t → Different (different xs) → Different (cond t (different xs) (x ∷ different xs))
+    by true q d = d
+    by false q d = (λ m. false≢true (sym q ∙ member-stands (none-new xs x m)), d)
 
 -- ---- the file
 
@@ -152,4 +129,4 @@ some-file s all e in-range few =
 pub only-file : (s : List ℕ) (all : List Limit) (one : List ℕ) → OneFile s all one → length (different (all ++ planOf s .limits)) ≤ version1 .limits
 only-file s all one f =
     let every : List Limit = all ++ planOf s .limits in
-    omega (arith, good one (f .sound) .ranges .limits, no-more every (planOf one .limits) (λ m h. f .none-less m (none-new every m h)))
+    omega (arith, good one (f .sound) .ranges .limits, no-longer (different every) (planOf one .limits) (different-once every) (λ m h. f .none-less m (none-new every m h)))
