@@ -71,7 +71,7 @@ pub data RowLeaves (strict weak : RefT (List ℤ)) (n x : ℕ) (which : Side) (p
   nothing : ((n < 1) ⊎ (version1 .points < n)) ⊎ ((n ≤ x) ⊎ ((length (now strict) < n * n) ⊎ (length (now weak) < n * n))) → now part ≡ []
       → RowLeaves strict weak n x which part
 
--- all calls that answer with a code, and row access; and two answers to the same input are equal, in code, place and every lent cell, two parts in
+-- the four calls of document 01, and row access; and two answers to the same input are equal, in code, place and every lent cell, two parts in
 -- their numbers and, where there is a row, in where they lie
 pub record Demand1 : Type 0 where
   pub judge : (s : List ℕ) (strict weak : List ℤ) (a : Answer) (strict′ weak′ : List ℤ)

@@ -24,7 +24,7 @@ returns : tie.Need-returns
 returns c = search refused
 
 returns-2 : tie.Need-returns-2
-returns-2 c = search (short, arith)
+returns-2 c = search short
 
 returns-3 : tie.Need-returns-3
 returns-3 c = search wrote
