@@ -7,7 +7,7 @@ writes crates/files/stdin and crates/files/stdout. Each file stands in stdin beh
 X, Y, w that is handed to Add with it. Of each, stdout has a line: code and place of the file, code and place with Add's limit.
 
 Nothing here comes from the library. `of_file` and `of_add` are a reading of the rule paper ("Plan file", "Numbers
-returned"), and each case also names the answer that it is there for; the two must agree.
+returned") with document 02 (item 2: "1 <= l <= u"), and each case also names the answer that it is there for; the two must agree.
 """
 import os
 import struct
@@ -24,7 +24,7 @@ def limit_fits(n, x, y, w):
 
 
 def link_fits(n, a, c, l, u):
-    return a < n and c < n and a != c and c != 0 and 1 <= l < u <= WEIGHT
+    return a < n and c < n and a != c and c != 0 and 1 <= l <= u <= WEIGHT
 
 
 def parts(data):
@@ -175,8 +175,13 @@ CASES = [
     ("C = 0", one_link((1, 0, 2, 5)), (7, 0)),
     ("l = 0", one_link((0, 1, 0, 5)), (7, 0)),
     ("l = 1", one_link((0, 1, 1, 5)), (0, 0)),
-    ("l = u", one_link((0, 1, 5, 5)), (7, 0)),
-    ("l above u", one_link((0, 1, 6, 5)), (7, 0)),
+    ("l = u", one_link((0, 1, 5, 5)), (0, 0)),
+    ("l = u = 0", one_link((0, 1, 0, 0)), (7, 0)),
+    ("l = u = 1", one_link((0, 1, 1, 1)), (0, 0)),
+    ("l = u = 1,000,000", one_link((0, 1, WEIGHT, WEIGHT)), (0, 0)),
+    ("l = u = 1,000,001", one_link((0, 1, WEIGHT + 1, WEIGHT + 1)), (7, 0)),
+    ("l one above u", one_link((0, 1, 6, 5)), (7, 0)),
+    ("l at its fullest", one_link((0, 1, FULL, 5)), (7, 0)),
     ("l one below u", one_link((0, 1, 4, 5)), (0, 0)),
     ("u 1,000,000", one_link((0, 1, 5, WEIGHT)), (0, 0)),
     ("u 1,000,001", one_link((0, 1, 5, WEIGHT + 1)), (7, 0)),
@@ -194,7 +199,7 @@ CASES = [
     ("limits before the links", plan(3, [(3, 0, 0)], [(0, 0, 0, 0)]), (6, 0)),
     ("a link that is both 7 and 8", plan(4, [], [(0, 1, 2, 5), (1, 1, 2, 5)]), (7, 1)),
     ("8 before a later 7", plan(4, [], [(0, 1, 2, 5), (2, 1, 2, 5), (0, 0, 0, 0)]), (8, 1)),
-    ("7 before a later 8", plan(4, [], [(0, 1, 2, 5), (0, 3, 5, 5), (2, 1, 2, 5)]), (7, 1)),
+    ("7 before a later 8", plan(4, [], [(0, 1, 2, 5), (0, 3, 6, 5), (2, 1, 2, 5)]), (7, 1)),
 ]
 
 # the same with a limit for Add: what the case is, the file, the limit, code and place

@@ -9,7 +9,7 @@ and, with 0, both tables; Check's code and place for the tables that Judge left;
 after the other, the limit, Add's code and place, both tables after it, and how many cells of a scratch of 7s are 0 from the first one on
 and how many behind those are still 7; Earliest's code and place and, with 0, the times.
 
-Nothing here comes from the library: the plans and what is said of them are document 01's "Plans to try", the tables are found by the
+Nothing here comes from the library: the plans and what is said of them are document 01's "Plans to try" and document 02's, the tables are found by the
 rounds over the rules of tried_tables.py, Add's too, and codes 1 to 8 are those of damaged_files.py. What the paper prints is compared
 with what is found here.
 """
@@ -20,7 +20,7 @@ from damaged_files import of_add, of_file
 from tried_tables import E_LINK, MARK, PLANS, REACH, answer, cells, file_of, printed, tables
 
 ROOM, SCRATCH = 4096, 8192
-LETTERS = "abcdefghijk"
+NAMED = [*"abcdefghijk", "02"]  # document 01's cases by their letters, and those of document 02
 # the earliest times that the paper prints, by the name of the case
 TIMES = {"b": [0, 0], "d": [0, 4, 7]}
 # what is not among PLANS: name, points, limits, links, code and place of Judge
@@ -31,6 +31,9 @@ MORE = [
     ("l: w 1,000,000", 2, [(0, 1, 1_000_000)], [], (0, 0)),
     ("l: l = 0, the second link", 3, [], [(0, 2, 5, 1), (0, 0, 5, 2)], (7, 1)),
     ("l: u 1,000,000", 2, [], [(0, 2, 1_000_000, 1)], (0, 0)),
+    ("02: l above u, the second link", 3, [], [(0, 40, 40, 1), (0, 41, 40, 2)], (7, 1)),
+    ("02: l = u = 1,000,001", 2, [], [(0, 1_000_001, 1_000_001, 1)], (7, 0)),
+    ("02: l = u = 0", 2, [], [(0, 0, 0, 1)], (7, 0)),
 ]
 # limits added one after the other to the tables that Judge leaves: name, points, limits, links, what is added with Add's code and place, and
 # the case whose tables they end in
@@ -40,6 +43,9 @@ ADDED = [
     ("d, limit by limit", 3, [], [], [((0, 2, 12), (0, 0)), ((2, 1, -3), (0, 0)), ((1, 2, 6), (0, 0)), ((1, 0, -4), (0, 0))], "d"),
     ("h, its second limit added, then that of i, then one that names a point too many", 3, [(1, 2, -1)], E_LINK,
      [((2, 1, 4), (0, 0)), ((2, 1, 3), (11, 0)), ((3, 1, 0), (6, 1))], "h"),
+    # document 02, item 2: 40 seconds are what it takes, no more and no less
+    ("02: (0,40,40,1), limits added", 2, [], [(0, 40, 40, 1)],
+     [((0, 1, 40), (0, 0)), ((1, 0, -40), (0, 0)), ((0, 1, 39), (11, 0)), ((1, 0, -41), (11, 0))], "02: (0,40,40,1)"),
     ("c with -11, and a limit added to what is left", 2, [(0, 1, 10), (1, 0, -11)], [], [((0, 1, 10), (12, 0))], None),
 ]
 
@@ -134,7 +140,7 @@ def additions():
 def entries():
     """Each entry: the name, the file, its points, limits and links, and the limits to add. What the paper says of it is looked at first."""
     for name, n, limits, links, paper in PLANS:
-        if name.split()[0].strip(":") not in LETTERS:
+        if name.split()[0].strip(":") not in NAMED:
             continue
         data = file_of(n, limits, links)
         code, strict, weak = judged(data, n, limits, links)

@@ -119,7 +119,7 @@ def answer(data, n, limits, links, strict, weak):
     return (0, 0) if closed(n, limits, links, *read) else (12, 0)
 
 
-# ---- the plans to try: a to k, here with f's additions as limits of the file
+# ---- the plans to try: a to k, here with f's additions as limits of the file; those of document 02; one of our own
 
 E_LINK = [(0, 2, 5, 1)]
 PLANS = [
@@ -140,6 +140,16 @@ PLANS = [
     ("j with 1", 3, [(1, 2, 1)], [(0, 1, 3, 1), (0, 1, 2, 2)], []),
     ("k", 2, [(1, 1, -1)], [], None),
     ("k with 0", 2, [(1, 1, 0)], [], []),
+    # document 02, item 2: a restart of a fixed length, its neighbour, and both ends of the range
+    ("02: (0,40,40,1)", 2, [], [(0, 40, 40, 1)], ["0 40; -40 0"]),
+    ("02: (0,40,41,1) beside it", 2, [], [(0, 40, 41, 1)], ["0 41; -40 0", "0 40; -40 0"]),
+    ("02: l = u = 1", 2, [], [(0, 1, 1, 1)], ["0 1; -1 0"]),
+    ("02: l = u = 1,000,000", 2, [], [(0, 1_000_000, 1_000_000, 1)], ["0 1000000; -1000000 0"]),
+    # D(3) is 0: Lower takes the edge 1>3 of -1, and not that of 0. Worked out by hand
+    ("02: Lower below zero", 4, [(1, 3, -1)], [(0, 4, 8, 1), (2, 2, 2, 3)],
+     ["0 8 1 3; -4 0 -3 -1; 0 8 0 2; -2 6 -2 0", "0 4 1 3; -4 0 -3 -1; 0 4 0 2; -2 2 -2 0"]),
+    ("02: no Lower at zero", 4, [(1, 3, 0)], [(0, 4, 8, 1), (2, 2, 2, 3)],
+     ["0 8 6 8; -4 0 -2 0; 0 8 0 2; -2 6 -2 0", "0 4 2 4; -4 0 -2 0; 0 4 0 2; -2 2 -2 0"]),
     # strict joins that go through the last point, and a cell of the mark beside a sum
     ("through the last point", 4, [(0, 3, 2), (3, 1, -1), (1, 2, 7)], [(1, 1, 4, 2)], []),
 ]

@@ -1,4 +1,5 @@
--- Cases a to k of document 01, in its order and its words: "A link is written (A, l, u, C), a limit X>Y w." Assumes nothing.
+-- Cases a to k of document 01, in its order and its words: "A link is written (A, l, u, C), a limit X>Y w." Then the new case of document 02, item 2, and
+-- its neighbour. Assumes nothing.
 use mathlib.Core.List.{List, [], _∷_}
 use Prim.Native.Nat.{ℕ}
 use lib.IntN.{ℤ, pos, negℤ}
@@ -71,4 +72,10 @@ paper =
     -- k
     ∷ say (plan 2 [] (limit 1 1 (minus 1) ∷ [])) refused
     ∷ say (plan 2 [] (limit 1 1 (pos 0) ∷ [])) controllable
+    -- document 02, item 2: "n 2, (0,40,40,1) gives both tables 0 40; -40 0."
+    ∷ say (plan 2 (link 0 40 40 1 ∷ []) [])
+    (settled (pos 0 ∷ pos 40 ∷ minus 40 ∷ pos 0 ∷ []) (pos 0 ∷ pos 40 ∷ minus 40 ∷ pos 0 ∷ []) [])
+    -- a second more, and the two tables differ
+    ∷ say (plan 2 (link 0 40 41 1 ∷ []) [])
+    (settled (pos 0 ∷ pos 41 ∷ minus 40 ∷ pos 0 ∷ []) (pos 0 ∷ pos 40 ∷ minus 40 ∷ pos 0 ∷ []) [])
     ∷ []

@@ -122,7 +122,7 @@ link-ok r n k e =
     let differs = not (eqb (k .act) (k .con)) in
     let not-start = not (eqb (k .con) 0) in
     let least = leb 1 (k .short) in
-    let order = ltb (k .short) (k .long) in
+    let order = leb (k .short) (k .long) in
     let most = leb (k .long) (r .weight) in
     let p = both (act && con && differs && not-start && least && order) most e in
     let q = both (act && con && differs && not-start && least) order (p .0) in
@@ -136,7 +136,7 @@ link-ok r n k e =
       differs = differ (k .act) (k .con) (u .1);
       not-start = differ (k .con) 0 (t .1);
       least = leb-true 1 (k .short) (s .1);
-      order = ltb-true (k .short) (k .long) (q .1);
+      order = leb-true (k .short) (k .long) (q .1);
       most = leb-true (k .long) (r .weight) (p .1);
     }
 
@@ -147,7 +147,7 @@ ok-link r n k h =
     let u = and v (are-different (k .act) (k .con) (h .differs)) in
     let t = and u (are-different (k .con) 0 (h .not-start)) in
     let s = and t (le-leb 1 (k .short) (h .least)) in
-    let q = and s (lt-ltb (k .short) (k .long) (h .order)) in
+    let q = and s (le-leb (k .short) (k .long) (h .order)) in
     and q (le-leb (k .long) (r .weight) (h .most))
 
 -- a point is fresh exactly where it is no link's contingent point

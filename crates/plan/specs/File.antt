@@ -42,7 +42,7 @@ unfoldable pub limitFits : Ranges → ℕ → Limit → Bool
 limitFits r n m =
     ltb (m .from) n && ltb (m .to) n && leZ (negℤ (pos (r .weight))) (m .weight) && leZ (m .weight) (pos (r .weight))
 
--- "every point named is below n", "A differs from C, C is not 0", "1 <= l < u <= 1,000,000"
+-- "every point named is below n", "A differs from C, C is not 0", "u <= 1,000,000"; document 02, item 2: "From now on 1 <= l <= u."
 unfoldable pub linkFits : Ranges → ℕ → Link → Bool
 linkFits r n k =
     ltb (k .act) n
@@ -50,7 +50,7 @@ linkFits r n k =
     && not (eqb (k .act) (k .con))
     && not (eqb (k .con) 0)
     && leb 1 (k .short)
-    && ltb (k .short) (k .long)
+    && leb (k .short) (k .long)
     && leb (k .long) (r .weight)
 
 -- whether a point is the contingent point of none of these links

@@ -33,7 +33,7 @@ pub fn link_fits(n: u32, link: Link) -> bool
     ensures { λ r. ⌜ r ≡ linkFits version1 n (linkOf link) ⌝ }
 {
     let points = (link.act < n) & (link.con < n) & (link.act != link.con) & (link.con != 0);
-    points & (1 <= link.short) & (link.short < link.long) & (link.long <= 1_000_000)
+    points & (1 <= link.short) & (link.short <= link.long) & (link.long <= 1_000_000)
 }
 
 // Whether the records and the file's end are where they belong. At this width no count can make a sum wrap.

@@ -99,7 +99,7 @@ module _ (p q : Plan) (h : Dominates p q) where
       record { at = u .at; total = d .total; walk = d .walk; negative = omega (ints, d .le, u .negative) }
 
 -- two families that dominate each other have the same least totals
-least-moves : (E F : ℕ → ℕ → ℤ → Type 0) (x y : ℕ) (c : Cell) → ((t : ℤ) → Walk E x y t → Dominated F x y t)
+pub least-moves : (E F : ℕ → ℕ → ℤ → Type 0) (x y : ℕ) (c : Cell) → ((t : ℤ) → Walk E x y t → Dominated F x y t)
     → ((t : ℤ) → Walk F x y t → Dominated E x y t) → Least E x y c → Least F x y c
 least-moves E F x y mark f g h = λ t k. h (g t k .total) (g t k .walk)
 least-moves E F x y (num c) f g h =

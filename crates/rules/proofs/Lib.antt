@@ -10,6 +10,7 @@ pub mod Different
 pub mod Shortening
 pub mod Reach
 pub mod Domination
+pub mod FixedLength
 pub mod TablesClosed
 pub mod CellLimits
 pub mod Additions

@@ -4,6 +4,7 @@ pub mod Edges
 pub mod Walks
 pub mod Cells
 pub mod Tables
+pub mod FixedLength
 pub mod Times
 pub mod Answers
 pub mod Additions

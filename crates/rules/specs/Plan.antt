@@ -48,14 +48,14 @@ pub record LimitInRange (r : Ranges) (n : ℕ) (m : Limit) : Type 0 where
   pub least : negℤ (pos (r .weight)) ≤ℤ m .weight
   pub most : m .weight ≤ℤ pos (r .weight)
 
--- "For a link, 1 <= l < u <= 1,000,000, A differs from C, C is not 0"
+-- "For a link, .. u <= 1,000,000, A differs from C, C is not 0"; document 02, item 2: "From now on 1 <= l <= u."
 pub record LinkInRange (r : Ranges) (n : ℕ) (k : Link) : Type 0 where
   pub act : k .act < n
   pub con : k .con < n
   pub differs : k .act ≢ k .con
   pub not-start : k .con ≢ 0
   pub least : 1 ≤ k .short
-  pub order : k .short < k .long
+  pub order : k .short ≤ k .long
   pub most : k .long ≤ r .weight
 
 -- "no two links share a contingent point"
