@@ -17,7 +17,8 @@
  *
  * A PLAN FILE is bytes as they came: little-endian 32-bit fields, a header of 24 bytes, then the limits, then the
  * links. It is read where it lies, at any alignment, and is never copied. The largest has 12,824 bytes. Any bytes may
- * be lent: what is not a plan file is refused with its code.
+ * be lent: what is not a plan file is refused with its code. A link's durations are 1 <= shortest <= longest <=
+ * 1,000,000 seconds; a restart of a fixed length has both the same.
  *
  * A TABLE has n x n cells of int32_t for a plan of n points, in rows: the cell from x to y stands at x * n + y. A cell
  * is a number of seconds, or POST_MARK where there is no path. A slice may be longer than n x n; the cells beyond are
@@ -154,7 +155,7 @@ uint64_t post_add(const uint8_t *file, size_t file_len, uint32_t x, uint32_t y, 
 /*
  * Write: a plan file from lists, one for each field, into a buffer. Limit i says: point to[i] comes at most weight[i]
  * seconds after point from[i]. Link i says: point con[i] comes shortest[i] to longest[i] seconds after point act[i],
- * and nobody chooses when. With m the length of `from` and k that of `act`, the file has 24 + 12 x m + 16 x k bytes,
+ * and nobody chooses when (exactly so many where the two are equal). With m the length of `from` and k that of `act`, the file has 24 + 12 x m + 16 x k bytes,
  * its limits and links in the order of the lists.
  *
  *   0        written. The buffer begins with the file: every call here reads it as this plan. Bytes past the file stay
