@@ -114,6 +114,16 @@ ok-limits r n i (x ∷ xs) h =
 
 -- ---- links
 
+pub ok-link : (r : Ranges) (n : ℕ) (k : Link) → LinkInRange r n k → linkFits r n k ≡ true
+unfolding linkFits
+ok-link r n k h =
+    let v = and (lt-ltb (k .act) n (h .act)) (lt-ltb (k .con) n (h .con)) in
+    let u = and v (are-different (k .act) (k .con) (h .differs)) in
+    let t = and u (are-different (k .con) 0 (h .not-start)) in
+    let s = and t (le-leb 1 (k .short) (h .least)) in
+    let q = and s (le-leb (k .short) (k .long) (h .order)) in
+    and q (le-leb (k .long) (r .weight) (h .most))
+
 pub link-ok : (r : Ranges) (n : ℕ) (k : Link) → linkFits r n k ≡ true → LinkInRange r n k
 unfolding linkFits
 link-ok r n k e =
@@ -139,16 +149,6 @@ link-ok r n k e =
       order = leb-true (k .short) (k .long) (q .1);
       most = leb-true (k .long) (r .weight) (p .1);
     }
-
-pub ok-link : (r : Ranges) (n : ℕ) (k : Link) → LinkInRange r n k → linkFits r n k ≡ true
-unfolding linkFits
-ok-link r n k h =
-    let v = and (lt-ltb (k .act) n (h .act)) (lt-ltb (k .con) n (h .con)) in
-    let u = and v (are-different (k .act) (k .con) (h .differs)) in
-    let t = and u (are-different (k .con) 0 (h .not-start)) in
-    let s = and t (le-leb 1 (k .short) (h .least)) in
-    let q = and s (le-leb (k .short) (k .long) (h .order)) in
-    and q (le-leb (k .long) (r .weight) (h .most))
 
 -- a point is fresh exactly where it is no link's contingent point
 pub fresh-ok : (c : ℕ) (ks : List Link) → fresh c ks ≡ true → (k : Link) → List·Memᴰ k ks → k .con ≢ c
