@@ -3,7 +3,6 @@ use mathlib.Core.Path.{_≡_, refl}
 use mathlib.Core.Bool.{Bool, true}
 use mathlib.Core.List.{List}
 use Prim.Native.Nat.{ℕ, zero, _+_, _*_, _-_}
-use native.Mathlib.Omega.{arith}
 use lib.ListN.{getD}
 use lib.IntN.{ℤ, pos}
 use Rattle.rules.specs.Plan.{Link, version1, LinkInRange}
@@ -26,7 +25,7 @@ pub lower-decides : (n : ℕ) (t : List ℤ) (k j : Link) (c v : ℤ) {b : Bool}
     → Decides b (tableOf version1 n t (k .act) (j .con) ≤ᶜ cell32 v) → Decides b (PairLowered (tableOf version1 n t) k j)
 lower-decides n t k j c v {b} r apart e l d =
     let g : Decides b (tableOf version1 n t (k .act) (j .con) ≤ᶜ lowered k j (tableOf version1 n t (k .con) (j .con))) =
-    rw (← read-cell version1 n (k .con) (j .con) t c e, ← l k j refl (spread-is j (omega (arith, r .order)))) d in
+    rw (← read-cell version1 n (k .con) (j .con) t c e, ← l k j refl (spread-is j (r .order))) d in
     record { holds = λ f _. g .holds f; fails = λ f h. g .fails f (h apart) }
 
 -- Upper, the same way
