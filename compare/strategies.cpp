@@ -337,8 +337,10 @@ int exhaust(bool long_pass) {
   at_most_one_link(all);
   if (long_pass) two_links(all, heaviest, false);
   else two_links(all, 3, true);
-  const char *what = long_pass ? "two links and numbers up to 4" : "one link and numbers up to 4, and with two links, one of them or both of fixed length, and numbers up to 3";
-  std::printf("strategies: every plan of two and three points with at most %s, up to names: %llu plans, %llu of them with a link of fixed length, no difference\n",
+  const char *what = long_pass ? "two links and numbers up to 4"
+                               : "one link and numbers up to 4, and with two links, one of them or both of fixed length, and numbers up to 3";
+  std::printf("strategies: every plan of two and three points with at most %s, up to names: %llu plans, %llu of them with a link of fixed length, no "
+              "difference\n",
               what, figure(all.plans), figure(all.fixed));
   if (all.fixed == 0) std::printf("DIFFERENCE: no plan had a link of fixed length\n");
   return all.fixed == 0;

@@ -1,6 +1,7 @@
 // The RUL- algorithm's verdict, and verdict and tables by spreading, held against the reference over random plans: other roads to the same
-// verdict, and what shows that the benchmark measures working ones. And another plan with the same verdict: two limits in the place of a link of fixed length,
-// at any size, where strategies.cpp reaches tiny plans only. Also counts on how many plans the edges that RUL- leaves already give document 01's tables.
+// verdict, and what shows that the benchmark measures working ones. And another plan with the same verdict: two limits in the place of a link of fixed
+// length, at any size, where strategies.cpp reaches tiny plans only. Also counts on how many plans the edges that RUL- leaves already give document 01's
+// tables.
 #include "fixed.hpp"
 #include "random.hpp"
 #include "reference.hpp"
@@ -58,8 +59,8 @@ const char *verdict(bool controllable) { return controllable ? "controllable" : 
     try_without(plan.links);
   }
   const reference::Settled settled = reference::settle(plan, most_weight);
-  std::printf("DIFFERENCE: %s\n  RUL- says %s, the reference %s, spreading %s\n", notation(plan).c_str(), verdict(by_rul(plan)), verdict(settled.controllable),
-              spreads(plan, settled) ? "the same with its tables" : "something else");
+  std::printf("DIFFERENCE: %s\n  RUL- says %s, the reference %s, spreading %s\n", notation(plan).c_str(), verdict(by_rul(plan)),
+              verdict(settled.controllable), spreads(plan, settled) ? "the same with its tables" : "something else");
   const Plan limits_for = with_limits_for_fixed(plan, replaced);
   if (limits_for.links.size() < plan.links.size())
     std::printf("  %s\n  with limits for fixed links: RUL- says %s, the reference %s\n", notation(limits_for).c_str(), verdict(by_rul(limits_for)),
