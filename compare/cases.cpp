@@ -1,5 +1,6 @@
-// Document 01's plans a to l, typed in from the paper with the answers it gives, run on the reference and then on the linked calls.
-// Also the paper's "Easy ways to be wrong" that name a case, and one plan whose strict cells fall for ever.
+// Document 01's plans a to l and the plan of document 02's item 2, typed in from the papers with the answers they give, run on the reference and then on the
+// linked calls. Beside them plans about links of fixed length, with tables worked out by hand, and one plan whose strict cells fall for ever. Also document
+// 01's "Easy ways to be wrong" that name a case.
 #include <algorithm>
 #include <cstdio>
 
@@ -13,7 +14,7 @@ int wrong = 0;
 void expect(bool good, const char *calls, const char *what) {
   if (good) return;
   ++wrong;
-  std::printf("%s: case %s is not as document 01 has it\n", calls, what);
+  std::printf("%s: case %s is not as the papers have it\n", calls, what);
 }
 
 using Cells = std::vector<std::int32_t>;
@@ -80,6 +81,28 @@ void adds(const Calls &calls, const char *name, Plan plan, Limit limit, std::uin
   expect(scratch == std::vector<std::int64_t>(scratch.size(), 0), calls.name, name);
 }
 
+// The case of document 02, item 2, and what lies about it.
+void fixed_lengths(const Calls &calls) {
+  gives(calls, "of document 02, item 2", {2, {}, {{0, 1, 40, 40}}}, {0, 40, -40, 0}, {0, 40, -40, 0});
+  gives(calls, "of document 02, item 2, with u 41", {2, {}, {{0, 1, 40, 41}}}, {0, 41, -40, 0}, {0, 40, -40, 0});
+  refuses(calls, "of document 02, item 2, with l 41", {2, {}, {{0, 1, 41, 40}}}, 7);
+  gives(calls, "l = u = 1", {2, {}, {{0, 1, 1, 1}}}, {0, 1, -1, 0}, {0, 1, -1, 0});
+  gives(calls, "l = u = 1,000,000", {2, {}, {{0, 1, 1000000, 1000000}}}, {0, 1000000, -1000000, 0}, {0, 1000000, -1000000, 0});
+  refuses(calls, "l = u = 0", {2, {}, {{0, 1, 0, 0}}}, 7);
+  refuses(calls, "l = u = 1,000,001", {2, {}, {{0, 1, 1000001, 1000001}}}, 7);
+
+  // To the end of a fixed link Lower asks for w < 0. By 1>3 -1 it yields 0>3 4 - 1; joins alone yield 8 - 1, as they do with two limits for the link.
+  // Everything else is joins: 0>2 is 0>3 and -2, 3>0 is -2 and the start edge, 3>1 is 3>0 and 0>1, and 3>1 stays above D(1), which is 4.
+  const Link first = {0, 1, 4, 8}, second = {2, 3, 2, 2};
+  const Cells open_below = {0, 4, 1, 3, -4, 0, -3, -1, 0, 4, 0, 2, -2, 2, -2, 0};
+  gives(calls, "of Lower to a fixed end, 1>3 -1", {4, {{1, 3, -1}}, {first, second}}, {0, 8, 1, 3, -4, 0, -3, -1, 0, 8, 0, 2, -2, 6, -2, 0}, open_below);
+  gives(calls, "of two limits for a fixed link, 1>3 -1", {4, {{1, 3, -1}, {2, 3, 2}, {3, 2, -2}}, {first}},
+        {0, 8, 5, 7, -4, 0, -3, -1, 0, 8, 0, 2, -2, 6, -2, 0}, open_below);
+  // At 1>3 0 it does not apply, and 0>3 stays 8.
+  gives(calls, "of Lower to a fixed end, 1>3 0", {4, {{1, 3, 0}}, {first, second}}, {0, 8, 6, 8, -4, 0, -2, 0, 0, 8, 0, 2, -2, 6, -2, 0},
+        {0, 4, 2, 4, -4, 0, -2, 0, 0, 4, 0, 2, -2, 2, -2, 0});
+}
+
 void cases(const Calls &calls) {
   gives(calls, "a", {1, {}, {}}, {0}, {0});
 
@@ -121,6 +144,8 @@ void cases(const Calls &calls) {
   refuses(calls, "l", {2, {}, {{0, 1, 0, 5}}}, 7);
   expect(judge(calls, {2, {}, {{0, 1, 1, 1000000}}}).answer == 0, calls.name, "l");
 
+  fixed_lengths(calls);
+
   // Strict cells fall for ever and no strict diagonal turns negative; the open one does.
   refuses(calls, "of falling cells", {4, {{2, 3, -3}}, {{3, 2, 1, 7}, {0, 1, 2, 7}}}, 11);
 }
@@ -151,6 +176,7 @@ int main() {
   ways_to_be_wrong();
   if (wrong > 0) return 1;  // nothing below means anything while the reference is wrong
   cases(linked_calls);
-  std::printf("cases a to l: reference %s, linked calls %s\n", "as the paper has them", wrong ? "NOT as the paper has them" : "as the paper has them");
+  std::printf("cases a to l, document 02's item 2 and fixed lengths about it: reference as the papers have them, linked calls %s\n",
+              wrong ? "NOT as the papers have them" : "as the papers have them");
   return wrong > 0;
 }

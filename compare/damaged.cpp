@@ -45,7 +45,7 @@ void damage(Random &random, File &file, std::uint32_t n) {
         set_field(file, at, random.one_in(3) ? n + random.below(3) - 1 : edge_number(random, field_at(file, at)));
       }
       break;
-    case 6: case 7: case 8:  // a link's field: out of range, equal ends, turned round, repeated
+    case 6: case 7: case 8:  // a link's field: A for C, a shortest duration at or above the longest, repeated, out of range
       if (k > 0) {
         const std::size_t record = 24 + 12 * m + 16 * random.below(std::uint32_t(k)), other = 24 + 12 * m + 16 * random.below(std::uint32_t(k));
         const std::size_t at = record + 4 * random.below(4);

@@ -1,20 +1,34 @@
 // Random sound plans of all shapes through every call: Judge, Earliest, Check on the tables that Judge left, Add of a random limit to them.
 #include <algorithm>
 
+#include "fixed.hpp"
 #include "hold.hpp"
 #include "shapes.hpp"
+
+namespace {
+
+// Where every link is of fixed length, each lower-case edge weighs what an ordinary one does, so Judge's tables are the same.
+void must_be_one_table(const Plan &plan, const Case &judged, const Budget &budget) {
+  if (judged.strict == judged.open) return;
+  std::printf("DIFFERENCE in Judge: every link is of fixed length, and the tables are not the same\n  plan: %s\n  strict %s, open %s\n",
+              notation(plan).c_str(), notation(judged.strict, plan.points).c_str(), notation(judged.open, plan.points).c_str());
+  budget.found();
+}
+
+}  // namespace
 
 int main(int words, char **word) {
   Budget budget(words, word, 20000);
   Tally tally;
   std::uint64_t by_links[2][4] = {};  // verdicts by number of links: 0, 1, 2 to 4, more
-  std::uint64_t large = 0;
+  std::uint64_t large = 0, fixed = 0, one_table = 0;
   while (budget.more()) {
     Random random = budget.round();
     const Plan plan = random_plan(random);
     const auto file = file_of(plan);
     const std::size_t n = plan.points, k = plan.links.size();
     large += n > 12;
+    fixed += some_link_fixed(plan);
 
     Case lent = lend(random, Call::judge, file, n);
     std::uint64_t answer = hold(lent, budget);
@@ -27,6 +41,7 @@ int main(int words, char **word) {
     lent = lend(random, Call::judge, file, n, true);
     answer = hold(lent, budget);
     ++by_links[code_of(answer) == 0 ? 0 : 1][k == 0 ? 0 : k == 1 ? 1 : k < 5 ? 2 : 3];
+    if (answer == 0 && all_links_fixed(plan)) must_be_one_table(plan, lent, budget), ++one_table;
     const auto with_tables = [&](Call call) {  // tables as Judge left them; rooms may be short or long
       Case next = lend(random, call, file, n);
       std::copy_n(lent.strict.begin(), std::min(lent.strict.size(), next.strict.size()), next.strict.begin());
@@ -47,5 +62,10 @@ int main(int words, char **word) {
     std::printf("  %-15s        %9llu %9llu %9llu %9llu\n", verdict ? "uncontrollable" : "controllable",
                 static_cast<unsigned long long>(by_links[verdict][0]), static_cast<unsigned long long>(by_links[verdict][1]),
                 static_cast<unsigned long long>(by_links[verdict][2]), static_cast<unsigned long long>(by_links[verdict][3]));
+  std::printf("  with a link of fixed length: %llu plans; controllable with fixed links only, and both tables the same: %llu\n",
+              static_cast<unsigned long long>(fixed), static_cast<unsigned long long>(one_table));
   tally.print();
+  if (one_table > 0) return 0;
+  std::printf("plans: none of %llu random plans had fixed links only and was controllable\n", static_cast<unsigned long long>(budget.done));
+  return 1;
 }

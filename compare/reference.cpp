@@ -16,8 +16,9 @@ static bool limit_in_range(const Limit &limit, std::uint32_t points) {
   return limit.from < points && limit.to < points && limit.weight >= -most_weight && limit.weight <= most_weight;
 }
 
+// The durations are those of document 02, item 2, "From now on 1 <= l <= u"; all else is document 01's.
 static bool link_in_range(const Link &link, std::uint32_t points) {
-  return link.activation < points && link.contingent < points && 1 <= link.shortest && link.shortest < link.longest &&
+  return link.activation < points && link.contingent < points && 1 <= link.shortest && link.shortest <= link.longest &&
          link.longest <= most_weight && link.activation != link.contingent && link.contingent != 0;
 }
 
@@ -64,6 +65,7 @@ static std::vector<Limit> given_edges(const Plan &plan) {
 // "Adding to the mark gives the mark"
 static Wide sum(Wide a, Wide b) { return a == none || b == none ? none : a + b; }
 
+// D(C); 0 for a link of fixed length, so that Lower asks for an edge below 0 to its end.
 static Wide spread(const Link &link) { return Wide(link.longest) - Wide(link.shortest); }
 
 // Lower: from the edge C to R of `edge`, what A to R gets, or none where Lower does not apply.

@@ -7,6 +7,8 @@
 // - The queue's lines 8 to 10 are read as standing under the `if` of line 7; else a point would be put back for ever.
 // - UpdatePotential would go round for ever on a negative cycle; every such cycle passes A, so raising A's own bound ends it.
 // - Bellman-Ford stops at the first round that changes nothing.
+// A link of fixed length, which the paper allows ("l <= u"), needs nothing of its own. u - l is 0, so lines 12 and 13 ask for edges below 0; both cases of
+// ApplyUpper give max(v - u, -l) as before; and the lower-case edge into R weighs what the ordinary one does, so it is the same whether it is left out.
 #include "rul.hpp"
 
 #include <algorithm>

@@ -1,6 +1,7 @@
 // How the shapes are drawn. No two numbers are drawn in one expression's arguments: compilers evaluate those in different orders, and plans
 // must be the same on every machine. Plain random weights give almost only refused plans, so most shapes start from a hidden timetable: a limit
-// X>Y w is drawn as the timetable's difference and a little slack, and links are given durations about their hidden one.
+// X>Y w is drawn as the timetable's difference and a little slack, and links are given durations about their hidden one, or that one alone: some links are
+// of fixed length, and in some plans all of them are.
 #include "shapes.hpp"
 
 #include <algorithm>
@@ -14,6 +15,7 @@ struct Drawing {
   std::vector<Wide> hidden;
   Wide uncertainty = 0;    // the links' spreads together, up to which slack is drawn in plans that are to be
   bool generous = false;   // controllable though they have many links
+  bool all_fixed = false;  // every link is of fixed length
   Plan plan;
 
   Drawing(Random &random, std::uint32_t points, std::uint32_t limits, std::uint32_t links)
@@ -30,6 +32,7 @@ struct Drawing {
     static const std::vector<Wide> scales = {1, 1, 2, 3, 5, 10, 40, 1000, 15000};
     scale = random.any_of(scales);
     generous = random.one_in(2);
+    all_fixed = random.one_in(12);
     hidden.assign(plan.points, 0);
     for (std::uint32_t x = 1; x < plan.points; ++x) hidden[x] = random.from_to(0, 6 * scale);
   }
@@ -40,8 +43,8 @@ struct Drawing {
 
   void link(std::uint32_t activation, std::uint32_t end, Wide shortest, Wide longest) {
     if (plan.links.size() >= most_k || end == 0 || end == activation || end >= plan.points || contingent(end)) return;
-    shortest = std::clamp<Wide>(shortest, 1, most_weight - 1);
-    longest = std::clamp<Wide>(longest, shortest + 1, most_weight);
+    shortest = std::clamp<Wide>(shortest, 1, most_weight);
+    longest = all_fixed ? shortest : std::clamp<Wide>(longest, shortest, most_weight);
     plan.links.push_back({activation, end, std::uint32_t(shortest), std::uint32_t(longest)});
     uncertainty += longest - shortest;
   }
@@ -49,7 +52,9 @@ struct Drawing {
   // A link whose hidden end is its activation's hidden time and a duration.
   void timed_link(std::uint32_t activation, std::uint32_t end) {
     if (end == activation || end == 0 || contingent(end)) return;
-    const Wide shortest = random.from_to(1, 3 * scale), longest = shortest + random.from_to(1, 4 * scale);
+    const Wide shortest = random.from_to(1, 3 * scale);
+    const bool fixed = all_fixed || random.one_in(6);
+    const Wide longest = fixed ? shortest : shortest + random.from_to(1, 4 * scale);
     link(activation, end, shortest, longest);
     hidden[end] = hidden[activation] + random.from_to(shortest, longest);
   }
@@ -154,9 +159,10 @@ struct Drawing {
     hidden.assign(plan.points, 0);
     for (std::uint32_t x = 1; x < plan.points; ++x) hidden[x] = Wide(x) * most_weight;
     const bool back = random.one_in(2), forth = !back || random.one_in(2);
+    static const std::vector<Wide> shortests = {1, most_weight - 1, most_weight};
     for (std::uint32_t x = 0; x + 1 < plan.points; ++x) {
       if (random.one_in(40)) continue;
-      if (random.one_in(8)) link(x, x + 1, random.one_in(2) ? most_weight - 1 : 1, most_weight);
+      if (random.one_in(8)) link(x, x + 1, random.any_of(shortests), most_weight);
       if (forth) limit(x, x + 1, most_weight);
       if (back) limit(x + 1, x, random.one_in(60) ? -most_weight + 1 : -most_weight);
     }

@@ -1,5 +1,5 @@
-// Random plans of all shapes: no links, chains of links, shared activations, rings of limits and of links, weights at both ends, limits from a
-// point to itself, repeats, one point to sixty-four. Every plan here is sound, so that Judge has to work; damaged.cpp makes the others.
+// Random plans of all shapes: no links, chains of links, shared activations, links of fixed length, rings of limits and of links, weights at both ends,
+// limits from a point to itself, repeats, one point to sixty-four. Every plan here is sound, so that Judge has to work; damaged.cpp makes the others.
 #pragma once
 #include "plan.hpp"
 #include "random.hpp"

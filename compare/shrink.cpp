@@ -91,20 +91,31 @@ struct Shrink {
         lighter.limits[i].weight = weight;
         if (take(lighter)) { plan = lighter, any = true; break; }
       }
-    for (std::size_t i = 0; i < plan.links.size(); ++i)
-      for (int end = 0; end < 2; ++end)
-        for (Wide duration : smaller_numbers(end ? plan.links[i].longest : plan.links[i].shortest)) {
-          Plan shorter = plan;
-          (end ? shorter.links[i].longest : shorter.links[i].shortest) = std::uint32_t(duration);
-          if (shorter.links[i].shortest < 1 || shorter.links[i].shortest >= shorter.links[i].longest) continue;
-          if (take(shorter)) { plan = shorter, any = true; break; }
-        }
+    any |= shorter_links();
     any |= smaller_pairs();
     for (Wide weight : smaller_numbers(small.added.weight)) {
       Case lighter = small;
       lighter.added.weight = weight;
       if (take(lighter)) { any = true; break; }
     }
+    return any;
+  }
+
+  // Shorter durations: both by the same amount, so that what hangs on their difference stays, as that a link is of fixed length; then one of them.
+  bool shorter_links() {
+    bool any = false;
+    Plan plan = reading().plan;
+    for (std::size_t i = 0; i < plan.links.size(); ++i)
+      for (const auto &[of_shortest, of_longest] : {std::pair{true, true}, {true, false}, {false, true}})
+        for (Wide duration : smaller_numbers(of_shortest ? plan.links[i].shortest : plan.links[i].longest)) {
+          Plan shorter = plan;
+          Link &link = shorter.links[i];
+          const std::uint32_t less = (of_shortest ? link.shortest : link.longest) - std::uint32_t(duration);
+          if (of_shortest) link.shortest -= less;
+          if (of_longest) link.longest -= less;
+          if (link.shortest < 1 || link.shortest > link.longest) continue;
+          if (take(shorter)) { plan = shorter, any = true; break; }
+        }
     return any;
   }
 
@@ -115,7 +126,7 @@ struct Shrink {
     if (plan.limits.size() > 12) return false;
     for (std::size_t j = 0; j < plan.links.size(); ++j)
       for (std::size_t i = 0; i < plan.limits.size(); ++i) {
-        const Wide room = Wide(plan.links[j].longest) - plan.links[j].shortest - 1;
+        const Wide room = Wide(plan.links[j].longest) - plan.links[j].shortest;
         for (Wide amount : {room, room / 2, room / 8, Wide(1)}) {
           if (amount < 1 || amount > room || std::abs(plan.limits[i].weight - amount) >= std::abs(plan.limits[i].weight)) continue;
           Plan lighter = plan;

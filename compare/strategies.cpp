@@ -14,6 +14,7 @@
 #include <functional>
 #include <map>
 
+#include "fixed.hpp"
 #include "random.hpp"
 #include "reference.hpp"
 
@@ -185,9 +186,12 @@ Plan random_tiny(Random &random) {
   plan.points = random.one_in(12) ? 2 : random.one_in(3) ? 3 : 4;
   const std::uint32_t links = random.one_in(10) ? 0 : 1 + random.below(plan.points == 4 ? 3 : 2);
   for (std::uint32_t i = 0; i < links; ++i) {
-    const std::uint32_t a = random.below(plan.points), c = 1 + random.below(plan.points - 1), l = 1 + random.below(3);
+    const std::uint32_t a = random.below(plan.points), c = 1 + random.below(plan.points - 1);
     const bool taken = std::any_of(plan.links.begin(), plan.links.end(), [c](const Link &link) { return link.contingent == c; });
-    if (a != c && !taken) plan.links.push_back({a, c, l, l + 1 + random.below(heaviest - l)});
+    if (a == c || taken) continue;
+    const bool fixed = random.one_in(4);
+    const std::uint32_t l = 1 + random.below(fixed ? heaviest : heaviest - 1), u = fixed ? l : l + 1 + random.below(heaviest - l);
+    plan.links.push_back({a, c, l, u});
   }
   const auto limit = [&](std::uint32_t x, std::uint32_t y, Wide weight) {
     plan.limits.push_back({x, y, std::clamp<Wide>(weight, -heaviest, heaviest)});
@@ -207,10 +211,10 @@ Plan random_tiny(Random &random) {
   return plan;
 }
 
-// Every plan of two or three points with numbers up to 4 and the given links, up to limits that change nothing: at most one limit from a point to
-// another, none looser than 0 to point 0.
+// Every plan of two or three points with limits up to `up_to` either way and the given links, up to limits that change nothing or refuse every plan: at most
+// one limit from a point to another, none looser than 0 to point 0, none from a point to itself.
 template <class Each>
-void every_plan(const std::vector<Link> &links, std::uint32_t points, Each each) {
+void every_plan(const std::vector<Link> &links, std::uint32_t points, int up_to, Each each) {
   std::vector<Limit> slots;
   for (std::uint32_t x = 0; x < points; ++x)
     for (std::uint32_t y = 0; y < points; ++y)
@@ -219,10 +223,10 @@ void every_plan(const std::vector<Link> &links, std::uint32_t points, Each each)
   for (;;) {
     Plan plan = {points, {}, links};
     for (std::size_t i = 0; i < slots.size(); ++i)
-      if (at[i] > 0) plan.limits.push_back({slots[i].from, slots[i].to, at[i] - 1 - heaviest});
+      if (at[i] > 0) plan.limits.push_back({slots[i].from, slots[i].to, at[i] - 1 - up_to});
     each(plan);
     std::size_t i = 0;
-    while (i < at.size() && at[i] == (slots[i].to == 0 ? heaviest : 2 * heaviest + 1)) at[i++] = 0;
+    while (i < at.size() && at[i] == (slots[i].to == 0 ? up_to : 2 * up_to + 1)) at[i++] = 0;
     if (i == at.size()) return;
     ++at[i];
   }
@@ -247,6 +251,7 @@ const std::vector<std::pair<const char *, bool Altered::*>> alterations = {
 struct Counts {
   std::uint64_t plans = 0, controllable = 0, only_by_reacting = 0, uncontrollable = 0, though_consistent = 0;
   std::uint64_t chained_controllable = 0, chained_uncontrollable = 0, chained_only_by_reacting = 0, chained_though_consistent = 0;
+  std::uint64_t fixed = 0, fixed_only_by_reacting = 0, fixed_uncontrollable = 0;  // plans with a link of fixed length
 };
 
 struct Found {
@@ -275,49 +280,78 @@ bool held(const Plan &plan) {
 
 void count(Counts &counts, const Plan &plan, bool exists) {
   ++counts.plans;
-  const bool chained = contingent_activation(plan);
+  const bool chained = contingent_activation(plan), fixed = some_link_fixed(plan);
+  counts.fixed += fixed;
   if (exists) {
     const bool reacting = !plan.links.empty() && !fixed_timetable_exists(plan);
     ++counts.controllable, counts.only_by_reacting += reacting;
     counts.chained_controllable += chained, counts.chained_only_by_reacting += chained && reacting;
+    counts.fixed_only_by_reacting += fixed && reacting;
   } else {
     const bool consistent = every_choice_consistent(plan);
     ++counts.uncontrollable, counts.though_consistent += consistent;
     counts.chained_uncontrollable += chained, counts.chained_though_consistent += chained && consistent;
+    counts.fixed_uncontrollable += fixed;
   }
 }
 
 unsigned long long figure(std::uint64_t number) { return number; }
 
-std::uint64_t exhaust(bool long_pass) {
-  std::uint64_t plans = 0;
-  const auto each = [&](const Plan &plan) { ++plans, held(plan); };
-  std::vector<std::pair<std::uint32_t, std::uint32_t>> spans;
-  for (std::uint32_t l = 1; l < heaviest; ++l)
-    for (std::uint32_t u = l + 1; u <= heaviest; ++u) spans.push_back({l, u});
-  every_plan({}, 2, each);
-  for (const auto &one : spans) every_plan({{0, 1, one.first, one.second}}, 2, each);
-  every_plan({}, 3, each);
-  for (const auto &one : spans)
-    for (std::uint32_t a : {0u, 2u}) every_plan({{a, 1, one.first, one.second}}, 3, each);
-  if (!long_pass) return plans;
-  for (const auto &one : spans)
-    for (const auto &two : spans)
-      for (std::uint32_t a : {0u, 1u}) every_plan({{0, 1, one.first, one.second}, {a, 2, two.first, two.second}}, 3, each);
-  return plans;
+struct Exhausted {
+  std::uint64_t plans = 0, fixed = 0;  // `fixed`: with a link of fixed length
+  void operator()(const Plan &plan) {
+    held(plan);
+    ++plans;
+    fixed += some_link_fixed(plan);
+  }
+};
+
+// Every link's durations with numbers up to `up_to`, fixed ones too.
+template <class Each>
+void every_span(std::uint32_t up_to, Each each) {
+  for (std::uint32_t l = 1; l <= up_to; ++l)
+    for (std::uint32_t u = l; u <= up_to; ++u) each(l, u);
+}
+
+void at_most_one_link(Exhausted &all) {
+  for (std::uint32_t points : {2u, 3u}) every_plan({}, points, heaviest, std::ref(all));
+  every_span(heaviest, [&](std::uint32_t l, std::uint32_t u) {
+    every_plan({{0, 1, l, u}}, 2, heaviest, std::ref(all));
+    for (std::uint32_t a : {0u, 2u}) every_plan({{a, 1, l, u}}, 3, heaviest, std::ref(all));
+  });
+}
+
+// Two links from point 0, or the second from the first one's end; with `one_fixed` only where one of them or both are of fixed length.
+// Two links in a ring are not looked at: neither can begin, and every such plan is refused.
+void two_links(Exhausted &all, std::uint32_t up_to, bool one_fixed) {
+  every_span(up_to, [&](std::uint32_t l, std::uint32_t u) {
+    every_span(up_to, [&](std::uint32_t second_l, std::uint32_t second_u) {
+      if (one_fixed && l < u && second_l < second_u) return;
+      for (std::uint32_t a : {0u, 1u}) every_plan({{0, 1, l, u}, {a, 2, second_l, second_u}}, 3, int(up_to), std::ref(all));
+    });
+  });
+}
+
+int exhaust(bool long_pass) {
+  Exhausted all;
+  at_most_one_link(all);
+  if (long_pass) two_links(all, heaviest, false);
+  else two_links(all, 3, true);
+  const char *what = long_pass ? "two links and numbers up to 4"
+                               : "one link and numbers up to 4, and with two links, one of them or both of fixed length, and numbers up to 3";
+  std::printf("strategies: every plan of two and three points with at most %s, up to names: %llu plans, %llu of them with a link of fixed length, no "
+              "difference\n",
+              what, figure(all.plans), figure(all.fixed));
+  if (all.fixed == 0) std::printf("DIFFERENCE: no plan had a link of fixed length\n");
+  return all.fixed == 0;
 }
 
 }  // namespace
 
-// Arguments as the other programs'; or `exhaust short`, every plan of two and three points with at most one link; or `exhaust long`, with two as well.
+// Arguments as the other programs'; or `exhaust short`, every plan of two and three points with at most one link, and those with two of which one or both
+// are of fixed length, with smaller numbers; or `exhaust long`, with any two.
 int main(int words, char **word) {
-  if (words == 3 && !std::strcmp(word[1], "exhaust")) {
-    const bool long_pass = !std::strcmp(word[2], "long");
-    const std::uint64_t plans = exhaust(long_pass);
-    std::printf("strategies: every plan of two and three points with at most %s and numbers up to 4, up to names: %llu plans, no difference\n",
-                long_pass ? "two links" : "one link", figure(plans));
-    return 0;
-  }
+  if (words == 3 && !std::strcmp(word[1], "exhaust")) return exhaust(!std::strcmp(word[2], "long"));
   Budget budget(words, word, 20000);
   Counts counts;
   std::vector<Found> found(alterations.size());
@@ -346,14 +380,18 @@ int main(int words, char **word) {
   std::printf("  with a contingent activation: controllable %llu (only by reacting %llu), uncontrollable %llu (though consistent %llu)\n",
               figure(counts.chained_controllable), figure(counts.chained_only_by_reacting), figure(counts.chained_uncontrollable),
               figure(counts.chained_though_consistent));
+  std::printf("  with a link of fixed length: %llu plans, of these controllable only by reacting %llu, uncontrollable %llu\n", figure(counts.fixed),
+              figure(counts.fixed_only_by_reacting), figure(counts.fixed_uncontrollable));
   std::printf("  controllable, but not for a side that reacts a second late: %llu\n", figure(lost_by_reacting_late));
-  bool all = lost_by_reacting_late > 0;
+  bool all = lost_by_reacting_late > 0 && counts.fixed_only_by_reacting > 0 && counts.fixed_uncontrollable > 0;
   for (std::size_t i = 0; i < alterations.size(); ++i) {
     std::printf("  rules altered, %-40s %7llu differences", alterations[i].first, figure(found[i].differences));
     if (found[i].differences > 0) std::printf(", as %s", notation(found[i].plan).c_str());
     std::printf("\n");
     all &= found[i].differences > 0;
   }
-  if (!all) std::printf("DIFFERENCE: an alteration was not found out, or nothing hung on reacting at once\n");
+  if (!all)
+    std::printf("DIFFERENCE: an alteration was not found out, or nothing hung on reacting at once, or with a fixed link no plan was controllable only by "
+                "reacting or none uncontrollable\n");
   return all ? 0 : 1;
 }

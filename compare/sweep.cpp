@@ -47,7 +47,7 @@ std::uint64_t refuse_links(std::size_t k, std::size_t n, const Links &link) {
   std::uint64_t ends = 0;  // a bit for each contingent point met
   for (std::size_t i = 0; i < k; ++i) {
     const auto [a, c, l, u] = link(i);
-    if (a >= n || c >= n || a == c || c == 0 || l == 0 || l >= u || u > 1000000) return refuse(7, i);
+    if (a >= n || c >= n || a == c || c == 0 || l == 0 || l > u || u > 1000000) return refuse(7, i);
     if (ends >> c & 1) return refuse(8, i);
     ends |= std::uint64_t(1) << c;
   }

@@ -71,8 +71,8 @@ Plan changed(Random &random, Plan plan) {
       if (!plan.links.empty()) {
         Link &link = plan.links[random.below(std::uint32_t(plan.links.size()))];
         const Wide shortest = std::max<Wide>(1, link.shortest + random.from_to(-2, 2));
-        const Wide longest = std::max(shortest + 1, link.longest + random.from_to(-step, step));
-        link.shortest = std::uint32_t(std::min(shortest, most_weight - 1)), link.longest = std::uint32_t(std::min(longest, most_weight));
+        const Wide longest = std::max(shortest, link.longest + random.from_to(-step, step));
+        link.shortest = std::uint32_t(std::min(shortest, most_weight)), link.longest = std::uint32_t(std::min(longest, most_weight));
       }
       break;
     default:
@@ -89,8 +89,8 @@ Plan start(Random &random, std::uint32_t n, std::uint32_t k) {
   Plan plan;
   plan.points = n;
   for (std::uint32_t i = 0; i < k; ++i) {
-    const std::uint32_t end = n - 1 - i, shortest = 1 + random.below(5);
-    plan.links.push_back({random.below(n - k), end, shortest, shortest + 1 + random.below(20)});
+    const std::uint32_t end = n - 1 - i, shortest = 1 + random.below(5), spread = random.one_in(6) ? 0 : 1 + random.below(20);
+    plan.links.push_back({random.below(n - k), end, shortest, shortest + spread});
   }
   for (std::uint32_t i = 0; i < 2 * k; ++i) plan.limits.push_back({random.below(n), random.below(n), random.from_to(-6, 24)});
   return plan;

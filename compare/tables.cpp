@@ -1,7 +1,8 @@
 // Tables of all sorts for Check and Add: closed ones that are a plan's own, closed ones of a stricter plan or with cells up to 63,000,000,
-// closed ones with a cell or two moved, and random ones.
+// closed ones with a cell or two moved, random ones, and those of a plan with two limits in the place of each link of fixed length.
 #include <algorithm>
 
+#include "fixed.hpp"
 #include "hold.hpp"
 #include "shapes.hpp"
 
@@ -66,6 +67,19 @@ std::int32_t moved(Random &random, std::int32_t cell) {
   }
 }
 
+// Of the plan with limits in the place of its fixed links. Joins over these limits yield all that the links would but for Lower to their ends: the tables are
+// closed unless that lowers a cell. Moving cells of closed tables hardly ever leads to such ones, for a fixed link's two points move together. So that there
+// is something to lower, a link of the plan becomes one of fixed length and must end before another does.
+Pair without_lower_to_fixed(Random &random, Plan &plan) {
+  if (plan.links.size() > 1 && plan.limits.size() < most_limits) {
+    Link &one = plan.links[random.below(std::uint32_t(plan.links.size()))];
+    one.longest = one.shortest;
+    const Link other = random.any_of(plan.links);
+    if (other.contingent != one.contingent) plan.limits.push_back({other.contingent, one.contingent, -random.from_to(1, other.shortest)});
+  }
+  return tables_of(with_limits_for_fixed(plan), most_weight);
+}
+
 Pair random_tables(Random &random, std::size_t n) {
   Pair pair{true, Cells(n * n), Cells(n * n), {0, 0, 0}};
   const Wide scale = random.one_in(3) ? 3 : random.one_in(2) ? closed_range : 2147483647;
@@ -80,25 +94,26 @@ Pair random_tables(Random &random, std::size_t n) {
 int main(int words, char **word) {
   Budget budget(words, word, 30000);
   Tally tally;
-  std::uint64_t beyond = 0, kinds[5] = {};
+  std::uint64_t beyond = 0, by_lower_to_fixed = 0, kinds[6] = {};
   while (budget.more()) {
     Random random = budget.round();
     const bool large = random.one_in(60);
     Plan plan = random_plan(random, large ? most_points : 8);
     while (plan.limits.size() > 2 && random.one_in(2)) plan.limits.pop_back();  // fewer limits leave more room for other tables
-    const std::uint32_t kind = random.below(5);
+    const std::uint32_t kind = random.below(6);
     if ((kind == 2 || kind == 3) && random.one_in(2)) plan.limits.resize(std::min<std::size_t>(plan.limits.size(), random.below(2)));
     Pair pair = kind == 0   ? tables_of(plan, most_weight)
                 : kind == 1 ? stricter_tables(random, plan, false)
                 : kind == 4 ? random_tables(random, plan.points)
+                : kind == 5 ? without_lower_to_fixed(random, plan)
                             : stricter_tables(random, plan, true);
     if (kind == 1 && pair.there && random.one_in(2)) pair.strict = tables_of(plan, most_weight).strict;  // closed, and open lower than least
     if (!pair.there) pair = tables_of(plan, most_weight);
     if (!pair.there) continue;
     ++kinds[kind];
-    bool intact = kind != 4;
+    bool as_made = true;
     if (random.one_in(2))
-      for (std::uint32_t i = 1 + random.below(2); i > 0; --i, intact = false) {
+      for (std::uint32_t i = 1 + random.below(2); i > 0; --i, as_made = false) {
         Cells &cells = random.one_in(2) ? pair.strict : pair.open;
         std::int32_t &cell = cells[random.below(std::uint32_t(cells.size()))];
         cell = moved(random, cell);
@@ -113,7 +128,9 @@ int main(int words, char **word) {
       else if (random.one_in(3)) lent.added.weight = random.one_in(2) ? most_weight : -most_weight;
       const std::uint64_t answer = hold(lent, budget);
       tally.count(call, answer);
-      beyond += call == Call::add && intact && code_of(answer) == 12;  // closed tables, so the result left the range
+      const bool refused = as_made && code_of(answer) == 12;
+      beyond += call == Call::add && kind < 4 && refused;  // closed tables, so the result left the range
+      by_lower_to_fixed += call == Call::check && kind == 5 && refused;
     }
   }
   std::printf("tables: %llu rounds, %.1f s, no difference; %llu results of Add beyond the range\n", static_cast<unsigned long long>(budget.done),
@@ -121,5 +138,10 @@ int main(int words, char **word) {
   std::printf("  tables: %llu a plan's own, %llu of a stricter plan, %llu with cells to the end of the range, %llu random\n",
               static_cast<unsigned long long>(kinds[0]), static_cast<unsigned long long>(kinds[1]),
               static_cast<unsigned long long>(kinds[2] + kinds[3]), static_cast<unsigned long long>(kinds[4]));
+  std::printf("  and %llu of a plan with limits for its fixed links; %llu of these refused for Lower to the end of a fixed link alone\n",
+              static_cast<unsigned long long>(kinds[5]), static_cast<unsigned long long>(by_lower_to_fixed));
   tally.print();
+  if (by_lower_to_fixed > 0) return 0;
+  std::printf("tables: in %llu rounds none were refused for Lower to the end of a fixed link alone\n", static_cast<unsigned long long>(budget.done));
+  return 1;
 }

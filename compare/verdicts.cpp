@@ -1,5 +1,8 @@
 // The RUL- algorithm's verdict, and verdict and tables by spreading, held against the reference over random plans: other roads to the same
-// verdict, and what shows that the benchmark measures working ones. Also counts on how many plans the edges that RUL- leaves already give document 01's tables.
+// verdict, and what shows that the benchmark measures working ones. And another plan with the same verdict: two limits in the place of a link of fixed
+// length, at any size, where strategies.cpp reaches tiny plans only. Also counts on how many plans the edges that RUL- leaves already give document 01's
+// tables.
+#include "fixed.hpp"
 #include "random.hpp"
 #include "reference.hpp"
 #include "rul.hpp"
@@ -27,29 +30,41 @@ bool spreads(const Plan &plan, const reference::Settled &settled) {
   return settled.controllable ? answer == 0 && same(settled.strict, strict) && same(settled.open, open) : answer == 11;
 }
 
-bool differs(const Plan &plan) {
-  const reference::Settled settled = reference::settle(plan, most_weight);
-  return by_rul(plan) != settled.controllable || !spreads(plan, settled);
+// Limits in the place of fixed links must leave the verdict, for the reference and for RUL-. Tables are not compared, and fixed.hpp says why.
+bool keeps_verdict(const Plan &plan, Ends replaced, bool controllable) {
+  const Plan limits_for = with_limits_for_fixed(plan, replaced);
+  return reference::settle(limits_for, most_weight).controllable == controllable && by_rul(limits_for) == controllable;
 }
 
-[[noreturn]] void report(Plan plan, const Budget &budget) {
+bool differs(const Plan &plan, Ends replaced) {
+  const reference::Settled settled = reference::settle(plan, most_weight);
+  if (by_rul(plan) != settled.controllable || !spreads(plan, settled)) return true;
+  return some_link_fixed(plan) && !keeps_verdict(plan, replaced, settled.controllable);
+}
+
+const char *verdict(bool controllable) { return controllable ? "controllable" : "uncontrollable"; }
+
+[[noreturn]] void report(Plan plan, Ends replaced, const Budget &budget) {
   for (bool smaller = true; smaller;) {
     smaller = false;
     const auto try_without = [&](auto &list) {
       for (std::size_t i = list.size(); i > 0; --i) {
         const auto whole = list;
         list.erase(list.begin() + i - 1);
-        if (!differs(plan)) list = whole;
+        if (!differs(plan, replaced)) list = whole;
         else smaller = true;
       }
     };
     try_without(plan.limits);
     try_without(plan.links);
   }
-  std::printf("DIFFERENCE: %s\n  RUL- says %s, the reference %s, spreading %s\n", notation(plan).c_str(),
-              by_rul(plan) ? "controllable" : "uncontrollable",
-              reference::settle(plan, most_weight).controllable ? "controllable" : "uncontrollable",
-              spreads(plan, reference::settle(plan, most_weight)) ? "the same with its tables" : "something else");
+  const reference::Settled settled = reference::settle(plan, most_weight);
+  std::printf("DIFFERENCE: %s\n  RUL- says %s, the reference %s, spreading %s\n", notation(plan).c_str(), verdict(by_rul(plan)),
+              verdict(settled.controllable), spreads(plan, settled) ? "the same with its tables" : "something else");
+  const Plan limits_for = with_limits_for_fixed(plan, replaced);
+  if (limits_for.links.size() < plan.links.size())
+    std::printf("  %s\n  with limits for fixed links: RUL- says %s, the reference %s\n", notation(limits_for).c_str(), verdict(by_rul(limits_for)),
+                verdict(reference::settle(limits_for, most_weight).controllable));
   budget.found();
 }
 
@@ -57,12 +72,17 @@ bool differs(const Plan &plan) {
 
 int main(int words, char **word) {
   Budget budget(words, word, 20000);
-  std::uint64_t controllable = 0, strict_same = 0, open_same = 0;
+  std::uint64_t controllable = 0, strict_same = 0, open_same = 0, fixed[2] = {};  // `fixed`: with a link of fixed length, by verdict
   while (budget.more()) {
     Random random = budget.round();
     const Plan plan = random_plan(random);
-    if (differs(plan)) report(plan, budget);
+    if (differs(plan, every_end)) report(plan, every_end, budget);
     const reference::Settled settled = reference::settle(plan, most_weight);
+    if (some_link_fixed(plan)) {
+      const Ends some = random.next();
+      if (!keeps_verdict(plan, some, settled.controllable)) report(plan, some, budget);
+      ++fixed[settled.controllable];
+    }
     if (!settled.controllable || plan.links.empty()) continue;
     const auto file = file_of(plan);
     std::vector<std::int32_t> strict(plan.points * plan.points), open(strict);
@@ -72,4 +92,10 @@ int main(int words, char **word) {
   std::printf("verdicts: %llu random plans, RUL-, spreading and the reference agree, %.1f s\n", static_cast<unsigned long long>(budget.done), budget.spent());
   std::printf("  of %llu controllable plans with links its edges give the strict table of %llu and the open table of %llu\n",
               static_cast<unsigned long long>(controllable), static_cast<unsigned long long>(strict_same), static_cast<unsigned long long>(open_same));
+  std::printf("  with limits in the place of some and of all fixed links the same verdict: %llu controllable plans, %llu uncontrollable\n",
+              static_cast<unsigned long long>(fixed[true]), static_cast<unsigned long long>(fixed[false]));
+  if (fixed[true] > 0 && fixed[false] > 0) return 0;
+  std::printf("verdicts: of %llu random plans no controllable one, or no uncontrollable one, had a link of fixed length\n",
+              static_cast<unsigned long long>(budget.done));
+  return 1;
 }

@@ -214,6 +214,16 @@ struct Typed {
     for (std::uint32_t number : out) lists[list][i] = number, must(lists, code, i);
   }
 
+  // Both durations of a link the same number, in their range and not; and a shortest one above, which is refused wherever it lies.
+  void fixed_lengths(const Lists &sound, std::uint32_t i, const std::vector<std::uint32_t> &in, const std::vector<std::uint32_t> &out) {
+    Lists lists = sound;
+    for (std::uint32_t number : in) {
+      lists[shortest_list][i] = lists[longest_list][i] = number, must(lists, 0);
+      lists[shortest_list][i] = number + 1, must(lists, 7, i);
+    }
+    for (std::uint32_t number : out) lists[shortest_list][i] = lists[longest_list][i] = number, must(lists, 7, i);
+  }
+
   void ends_of_ranges(std::uint32_t n, std::uint32_t m, std::uint32_t k) {
     const Lists sound = sound_lists(n, m, k);
     const auto weight = [](Wide number) { return std::uint32_t(number); };
@@ -225,8 +235,9 @@ struct Typed {
       const std::uint32_t a = n - 1, c = i + 1, another = c == 1 ? 2 : 1, l = 10 + i, u = 20 + i;
       moved(sound, act_list, i, {0, n - 2, another}, {c, n, n + 1, top}, 7);
       moved(sound, con_list, i, {n - 2}, {0, a, n, n + 1, top}, 7);
-      moved(sound, shortest_list, i, {1, u - 1}, {0, u, u + 1, 1000000, top}, 7);
-      moved(sound, longest_list, i, {l + 1, 1000000}, {0, 1, l - 1, l, 1000001, top}, 7);
+      moved(sound, shortest_list, i, {1, u - 1, u}, {0, u + 1, 1000000, top}, 7);
+      moved(sound, longest_list, i, {l, l + 1, 1000000}, {0, 1, l - 1, 1000001, top}, 7);
+      fixed_lengths(sound, i, {1, 2, 999999, 1000000}, {0, 1000001, top});
       for (std::uint32_t j : some_below(k)) {
         Lists repeated = sound;
         repeated[con_list][j] = sound[con_list][i];
@@ -283,7 +294,7 @@ struct Typed {
                                  {8, 1, copied(con_list, 1, con_list, 0)},
                                  {8, 3, copied(con_list, 3, con_list, 0)},
                                  {7, 0, field(shortest_list, 0, 0)},
-                                 {7, 2, copied(longest_list, 2, shortest_list, 2)},
+                                 {7, 2, field(longest_list, 2, sound[shortest_list][2] - 1)},
                                  {7, 3, copied(act_list, 3, con_list, 3)}};
     for (List list : {to_list, weight_list, con_list, shortest_list, longest_list})
       for (std::size_t length : {sound[list].size() - 1, sound[list].size() + 1, std::size_t(0)})
@@ -336,7 +347,7 @@ void damage_link(Random &random, Lists &lists) {
     case 0: lists[con_list][i] = lists[act_list][i]; break;
     case 1: lists[con_list][i] = 0; break;
     case 2: lists[con_list][i] = lists[con_list][other]; break;
-    case 3: lists[shortest_list][i] = lists[longest_list][i] + random.below(2); break;
+    case 3: lists[shortest_list][i] = lists[longest_list][i] + random.below(2); break;  // of fixed length, or one above
     case 4: lists[shortest_list][i] = 0; break;
     case 5: lists[longest_list][i] = 1000000 + random.below(2); break;
     default: {
@@ -364,7 +375,7 @@ void damage(Random &random, Lists &lists) {
       const std::uint32_t now = std::uint32_t(limits ? lists.limits() : lists.links()), most = limits ? most_limits : most_links;
       const std::uint32_t count = std::max(1u, random.one_in(4) ? most + random.below(3) : now + random.below(3)) - 1;
       for (std::size_t each = limits ? from_list : act_list; each < (limits ? act_list : list_count); ++each)
-        lists.fields[each].resize(count, each == longest_list ? 2 : random.below(2));
+        lists.fields[each].resize(count, (each == longest_list ? 1 : 0) + random.below(2));
       break;
     }
     case 3: case 4: {  // a limit's field
