@@ -12,7 +12,6 @@
 // distance ask for at most W, and the others only get looser. Where one runs, it ends within W. So with n points nothing happens after W (n - 1).
 #include <algorithm>
 #include <functional>
-#include <map>
 
 #include "fixed.hpp"
 #include "random.hpp"
