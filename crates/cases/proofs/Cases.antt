@@ -1,5 +1,5 @@
--- Cases a to k of the paper hold of the definitions: one test that the checker computes over the whole table, and one lemma that turns it into each case.
--- Assumes nothing.
+-- Cases a to k of the paper, and those of document 02, hold of the definitions: one test that the checker computes over the whole table, and one lemma
+-- that turns it into each case. Assumes nothing.
 use mathlib.Core.Path.{_≡_, refl, sym, subst₂}
 use mathlib.Core.Bool.{Bool, true, false, _&&_, true≢false}
 use mathlib.Core.List.{List, [], _∷_}
@@ -146,6 +146,6 @@ paper-passes : allPass paper ≡ true
 unfolding version1 tableOf limitFits linkFits larger rowLimits tableLimits lowerCell joinCell joinRow joinMiddle joinAll lowerPair lowerLink lowerAll upperCell upperPoint upperAll openCell openRow openAll caseLink caseAll sweepStrict sweepOpen markAll diagonalAll limitCell limitAll startAll linkEdges linkAll firstStrict firstOpen
 paper-passes = refl
 
--- a to k
+-- a to k, and document 02's
 pub paper-holds : AllHold paper
 paper-holds = all-hold paper paper-passes

@@ -1,4 +1,4 @@
-// The plans of document 01, through the calls. Reads entries from standard input and prints of each: its name; Judge's code and place and, with 0,
+// The plans of documents 01 and 02, through the calls. Reads entries from standard input and prints of each: its name; Judge's code and place and, with 0,
 // both tables; Check's code and place for the tables that Judge left; of each limit that is then added to those tables, one after the other, the
 // limit, Add's code and place, both tables after it, and what it left in the scratch; Earliest's code and place and, with 0, the times. An entry is
 // twelve bytes, the lengths of a name and of a file and the number of limits to add, then the name, the file and the limits, each as a file has
