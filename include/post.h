@@ -154,9 +154,9 @@ uint64_t post_add(const uint8_t *file, size_t file_len, uint32_t x, uint32_t y, 
 
 /*
  * Write: a plan file from lists, one for each field, into a buffer. Limit i says: point to[i] comes at most weight[i]
- * seconds after point from[i]. Link i says: point con[i] comes shortest[i] to longest[i] seconds after point act[i],
- * and nobody chooses when (exactly so many where the two are equal). With m the length of `from` and k that of `act`, the file has 24 + 12 x m + 16 x k bytes,
- * its limits and links in the order of the lists.
+ * seconds after point from[i]. Link i says: point con[i] comes shortest[i] to longest[i] seconds after point act[i]
+ * (exactly so many where the two are equal), and nobody chooses when. With m the length of `from` and k that of `act`,
+ * the file has 24 + 12 x m + 16 x k bytes, its limits and links in the order of the lists.
  *
  *   0        written. The buffer begins with the file: every call here reads it as this plan. Bytes past the file stay
  *   3        n is not 1 to 64

@@ -7,7 +7,8 @@ writes crates/files/stdin and crates/files/stdout. Each file stands in stdin beh
 X, Y, w that is handed to Add with it. Of each, stdout has a line: code and place of the file, code and place with Add's limit.
 
 Nothing here comes from the library. `of_file` and `of_add` are a reading of the rule paper ("Plan file", "Numbers
-returned") with document 02 (item 2: "1 <= l <= u"), and each case also names the answer that it is there for; the two must agree.
+returned") and of document 02 (item 2: "1 <= l <= u"), and each case also names the answer that it is there for; the two
+must agree.
 """
 import os
 import struct

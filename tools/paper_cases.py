@@ -9,9 +9,9 @@ and, with 0, both tables; Check's code and place for the tables that Judge left;
 after the other, the limit, Add's code and place, both tables after it, and how many cells of a scratch of 7s are 0 from the first one on
 and how many behind those are still 7; Earliest's code and place and, with 0, the times.
 
-Nothing here comes from the library: the plans and what is said of them are document 01's "Plans to try" and document 02's, the tables are found by the
-rounds over the rules of tried_tables.py, Add's too, and codes 1 to 8 are those of damaged_files.py. What the paper prints is compared
-with what is found here.
+Nothing here comes from the library: the plans and what is said of them are document 01's "Plans to try" and document 02's, with others
+about them; the tables are found by the rounds over the rules of tried_tables.py, Add's too, and codes 1 to 8 are those of
+damaged_files.py. What the papers print is compared with what is found here.
 """
 import os
 import struct

@@ -140,12 +140,12 @@ PLANS = [
     ("j with 1", 3, [(1, 2, 1)], [(0, 1, 3, 1), (0, 1, 2, 2)], []),
     ("k", 2, [(1, 1, -1)], [], None),
     ("k with 0", 2, [(1, 1, 0)], [], []),
-    # document 02, item 2: a restart of a fixed length, its neighbour, and both ends of the range
+    # document 02, item 2, with the table that it prints; then its neighbour and both ends of the range, worked out by hand, as are those of Lower
     ("02: (0,40,40,1)", 2, [], [(0, 40, 40, 1)], ["0 40; -40 0"]),
     ("02: (0,40,41,1) beside it", 2, [], [(0, 40, 41, 1)], ["0 41; -40 0", "0 40; -40 0"]),
     ("02: l = u = 1", 2, [], [(0, 1, 1, 1)], ["0 1; -1 0"]),
     ("02: l = u = 1,000,000", 2, [], [(0, 1_000_000, 1_000_000, 1)], ["0 1000000; -1000000 0"]),
-    # D(3) is 0: Lower takes the edge 1>3 of -1, and not that of 0. Worked out by hand
+    # D(3) is 0: Lower takes the edge 1>3 of -1, and not that of 0
     ("02: Lower below zero", 4, [(1, 3, -1)], [(0, 4, 8, 1), (2, 2, 2, 3)],
      ["0 8 1 3; -4 0 -3 -1; 0 8 0 2; -2 6 -2 0", "0 4 1 3; -4 0 -3 -1; 0 4 0 2; -2 2 -2 0"]),
     ("02: no Lower at zero", 4, [(1, 3, 0)], [(0, 4, 8, 1), (2, 2, 2, 3)],

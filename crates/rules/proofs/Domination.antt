@@ -70,6 +70,10 @@ module _ (p : Plan) where
           let e′ : Derivable p x (k .con) (d .total) = subst (λ (b : ℕ). Derivable p x b (d .total)) ey e in
           record { total = upper-weight k (d .total); walk = single (edges.upper hk e′); le = upper-mono k (d .le) }
 
+-- ordinary edges are open edges
+pub as-open : {p : Plan} {x y : ℕ} {t : ℤ} → Walk (Derivable p) x y t → Walk (Open p) x y t
+as-open k = replaced (λ x y w d. single (edges.ordinary d)) k
+
 module _ (p q : Plan) (h : Dominates p q) where
   -- every derivable edge of q has a walk of p with no larger total
   pub derivable-dominated : {x y : ℕ} {w : ℤ} → Derivable q x y w → Dominated (Derivable p) x y w
@@ -82,7 +86,7 @@ module _ (p q : Plan) (h : Dominates p q) where
   open-edge-dominated : (x y : ℕ) (w : ℤ) → Open q x y w → Dominated (Open p) x y w
   open-edge-dominated x y w (edges.ordinary d) =
       let e : Dominated (Derivable p) x y w = derivable-dominated d in
-      record { total = e .total; walk = replaced (λ x y w d. single (edges.ordinary d)) (e .walk); le = e .le }
+      record { total = e .total; walk = as-open (e .walk); le = e .le }
   open-edge-dominated x y w (edges.lower-case {k} hk) = exactly (single (edges.lower-case (h .links k hk)))
 
   -- and so has every walk of derivable edges, and every open walk

@@ -13,7 +13,7 @@ use Rattle.rules.specs.Cells.{Table}
 use Rattle.rules.specs.Tables.{Tables}
 use Rattle.rules.specs.FixedLength.{Fixed, FixedLength}
 use Rattle.rules.proofs.Walks.{single, replaced, exactly}
-use Rattle.rules.proofs.Domination.{least-moves}
+use Rattle.rules.proofs.Domination.{as-open, least-moves}
 use Rattle.rules.proofs.Justified.{least-unique}
 
 spread-zero : (k : Link) → Fixed k → spread k ≡ pos zero
@@ -35,7 +35,7 @@ module _ (p : Plan) (fixed : (k : Link) → List·Memᴰ k (p .links) → Fixed 
   one-table strict weak t x y hx hy =
       least-unique (Open p) x y (strict x y) (weak x y)
       (least-moves (Derivable p) (Open p) x y (strict x y)
-      (λ t k. exactly (replaced (λ x y w d. single (ordinary d)) k)) (λ t k. exactly (replaced derivable k)) (t .strict-least x y hx hy))
+      (λ t k. exactly (as-open k)) (λ t k. exactly (replaced derivable k)) (t .strict-least x y hx hy))
       (t .open-least x y hx hy)
 
 pub fixed-length : FixedLength

@@ -14,9 +14,9 @@ use Rattle.rules.specs.Edges.{Derivable, Open, spread}
 use Rattle.rules.specs.Walks.{Walk, stay}
 use Rattle.rules.specs.Cells.{Cell, mark, num, _+ᶜ_, _≤ᶜ_, lowered, uppered, Within, Table}
 use Rattle.rules.specs.Tables.{Least, Tables, Closed}
-use Rattle.rules.proofs.Walks.{single, append, replaced, Dominated, exactly}
+use Rattle.rules.proofs.Walks.{single, append, Dominated, exactly}
 use Rattle.rules.proofs.Points.{Pointed, Weighted, Ends, given-ends}
-use Rattle.rules.proofs.Domination.{lower-walk, upper-walk}
+use Rattle.rules.proofs.Domination.{lower-walk, upper-walk, as-open}
 use Rattle.rules.proofs.Justified.{no-negative, tables-controllable}
 use Rattle.rules.proofs.Reach.{floor, ceiling}
 
@@ -51,10 +51,6 @@ least-join E x y z (num a) (num b) c ha hb hc = least-below E x z c hc (append (
 pub top : (c : Cell) → c ≤ᶜ mark
 top mark = tt
 top (num c) = tt
-
--- ordinary edges are open edges
-pub as-open : {p : Plan} {x y : ℕ} {t : ℤ} → Walk (Derivable p) x y t → Walk (Open p) x y t
-as-open k = replaced (λ x y w d. single (edges.ordinary d)) k
 
 module _ (p : Plan) (strict weak : Table) (g : Pointed p) (t : Tables p strict weak) where
   -- ---- rules

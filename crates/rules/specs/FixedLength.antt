@@ -1,4 +1,4 @@
--- Document 02, item 2, "Restart of a fixed length": "Rules and demands 2 and 3 read the same with it." No definition is needed for such links; this is what
+-- Document 02, item 2, "Restart of a fixed length": "Rules and demands 2 and 3 read the same with it." No rule has a case for such links; this is what
 -- the rules come to for them, of every plan, whatever its ranges. Assumes nothing.
 use mathlib.Core.Path.{_≡_}
 use mathlib.Core.Logic.{_≢_}

@@ -17,7 +17,7 @@ use Rattle.rules.proofs.Cells.{AtMost, at-most, by-at-most, under, sum, lowered
 use Rattle.rules.proofs.Walks.{single, append, Dominated}
 use Rattle.rules.proofs.Points.{Pointed, derivable-ends}
 use Rattle.rules.proofs.Justified.{justified-closed}
-use Rattle.rules.proofs.TablesClosed.{as-open}
+use Rattle.rules.proofs.Domination.{as-open}
 use Rattle.cell.specs.Steps.{clamped}
 use Rattle.cell.proofs.StoredCells.{clamped-within}
 use Rattle.lowering.specs.Fair.{Fair}

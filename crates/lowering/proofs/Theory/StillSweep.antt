@@ -24,7 +24,7 @@ use Rattle.rules.proofs.Expansion.{basic-least, basic-given}
 use Rattle.rules.proofs.Shortening.{Trail, stop, go, trail-least, trail-most}
 use Rattle.rules.proofs.Reach.{GivenTrail, given-trail, given-most, floor}
 use Rattle.rules.proofs.Justified.{justified-closed}
-use Rattle.rules.proofs.TablesClosed.{as-open}
+use Rattle.rules.proofs.Domination.{as-open}
 use Rattle.lowering.specs.Sweep.{sweepStrict, sweepOpen}
 use Rattle.lowering.proofs.Theory.StoredNumbers.{stored-at-most}
 use Rattle.lowering.proofs.Theory.LoweredTables.{Lowered, lowered-below}
