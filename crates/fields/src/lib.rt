@@ -46,13 +46,13 @@ fn word_within(file: &[u8], at: usize) -> u32
     word(file[at], file[at + 1], file[at + 2], file[at + 3])
 }
 
-// The unsigned field at a position. Where the file has all of it, which one test of its length tells, no byte is tested by itself.
+// The unsigned field at a position. Where the file has all of it, which one comparison with its length tells, no byte is tested by itself.
+// The test before that keeps the field's end from wrapping: where a position is made of 32-bit numbers, the compiler leaves it out.
 pub fn unsigned_at(file: &[u8], at: usize) -> u32
     ensures { λ r. ⌜ r ≡ wordAt (now (file .entry)) at ⌝ }
 {
-    let size = file.len();
-    if at < size {
-        if 4 <= size - at {
+    if at <= usize::MAX - 4 {
+        if at + 4 <= file.len() {
             return word_within(file, at);
         }
     }
