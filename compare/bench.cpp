@@ -12,6 +12,7 @@
 #include <functional>
 #include <string>
 
+#include "drawn.hpp"
 #include "lists.hpp"
 #include "plan.hpp"
 #include "post.h"
@@ -45,32 +46,6 @@ std::uint8_t buffer[24 + 12 * most_limits + 16 * most_links];
 volatile std::uint64_t seen;  // keeps the calls from being left out
 
 // ---- plans ----
-
-// A controllable plan of n points, k links and three limits a point, drawn about a hidden timetable with slack until it is controllable.
-Plan draw(Random &random, std::uint32_t n, std::uint32_t k) {
-  for (Wide slack = 20;; slack += 1 + slack / 50) {
-    Plan plan;
-    plan.points = n;
-    std::vector<Wide> hidden(n, 0);
-    std::vector<std::uint32_t> ends;
-    for (std::uint32_t x = 1; x < n; ++x) ends.push_back(x);
-    for (std::uint32_t i = n - 1; i > 1; --i) std::swap(ends[i - 1], ends[random.below(i)]);
-    ends.resize(k);
-    std::sort(ends.begin(), ends.end());
-    for (std::uint32_t x = 1; x < n; ++x) {
-      const std::uint32_t before = random.below(x);
-      const Wide shortest = random.from_to(1, 60), longest = shortest + random.from_to(1, 60);
-      hidden[x] = hidden[before] + shortest;
-      if (std::binary_search(ends.begin(), ends.end(), x)) plan.links.push_back({before, x, std::uint32_t(shortest), std::uint32_t(longest)});
-    }
-    while (plan.limits.size() < 3 * n) {
-      const std::uint32_t from = random.below(n), to = random.below(n);
-      plan.limits.push_back({from, to, hidden[to] - hidden[from] + random.from_to(slack / 4, slack)});
-    }
-    const auto file = file_of(plan);
-    if (sweep::judge(file.data(), file.size(), strict, most_cells, open_cells, most_cells) == 0) return plan;
-  }
-}
 
 // The largest plan there is; only Write is timed on it, so nobody asks whether it is controllable.
 Plan draw_largest(Random &random) {
@@ -282,7 +257,7 @@ int main(int words, char **word) {
   };
   for (std::uint32_t n : {8u, 16u, 32u, 64u})
     for (std::uint32_t k : {0u, n / 4, n / 2}) {
-      Random random(budget.seed * 1000003 + n * 100 + k);
+      Random random = row_of(budget.seed, n, k);
       std::vector<Prepared> plans;
       unsigned sweeps = 0, most_sweeps = 0, rounds = 0, most_rounds = 0;
       for (int i = 0; i < 12; ++i) {
