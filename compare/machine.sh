@@ -1,4 +1,4 @@
-# Sourced by run, program, bench and bite: which compilers, which emulator, where things lie, and how programs are built. Works on x86-64 and on Arm.
+# Sourced by run, program, bench, instructions and bite: which compilers, which emulator, where things lie, and how programs are built. Works on x86-64 and on Arm.
 # The library is x86-64 code, so what links it is compiled for x86-64 and, elsewhere, run by the kit's emulator. What does not link it is native.
 
 here=$(cd "$(dirname "${BASH_SOURCE[0]}")" && pwd)
