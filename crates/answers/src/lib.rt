@@ -21,6 +21,7 @@ pub fn code(a: Answer) -> u32
         Answer::ShortRoom => 9,
         Answer::HasLinks => 10,
         Answer::NotControllable => 11,
+        Answer::ReasonsListed(_) => 11,
         Answer::NotClosed => 12,
     }
 }
@@ -42,6 +43,7 @@ pub fn place(a: Answer) -> u32
         Answer::ShortRoom => 0,
         Answer::HasLinks => 0,
         Answer::NotControllable => 0,
+        Answer::ReasonsListed(lines) => lines,
         Answer::NotClosed => 0,
     }
 }

@@ -11,11 +11,11 @@ use lib.IntN.{ℤ, pos}
 use denote.Ref.{RefT, ptr, now}
 use borrow.Author.Tests.{leb-false, ltb-false}
 use Rattle.rules.specs.declared.Answer.{Answer}
-use Rattle.rules.specs.declared.Answer.the-variants.{Done, FewBytes, BadVersion, BadPoints, BadCounts, BadLayout, BadLimit, BadLink, RepeatedLink, ShortRoom, HasLinks, NotControllable, NotClosed}
+use Rattle.rules.specs.declared.Answer.the-variants.{Done, FewBytes, BadVersion, BadPoints, BadCounts, BadLayout, BadLimit, BadLink, RepeatedLink, ShortRoom, HasLinks, NotControllable, ReasonsListed, NotClosed}
 use Rattle.rules.specs.declared.Side.{Side}
 use Rattle.rules.specs.declared.Side.the-variants.{Strict, Open}
 use Rattle.rules.specs.Plan.{Limit, version1, InRange}
-use Rattle.rules.specs.Answers.{codeOf}
+use Rattle.rules.specs.Answers.{codeOf, placeOf}
 use Rattle.rules.specs.Calls.{Kept, Filled, Judged, Checked, Timed, Added}
 use Rattle.rules.specs.Rows.{chosen, hasRow, OwnCells, RowHanded}
 use Rattle.rules.proofs.OneAnswer.{judged-once, checked-once, timed-once, added-once}
@@ -48,6 +48,7 @@ refusal (RepeatedLink i) n = omega arith
 refusal ShortRoom n = omega arith
 refusal HasLinks n = omega arith
 refusal NotControllable n = omega arith
+refusal (ReasonsListed lines) n = omega arith
 refusal NotClosed n = omega arith
 
 module _ (s : List ℕ) where
@@ -56,7 +57,7 @@ module _ (s : List ℕ) where
   judge-leaves file f strict weak a strict′ weak′ (Judged.bad-file n) =
       record {
         code = inl (omega arith);
-        place = place-named file;
+        place = place-named file (omega arith);
         refusals = λ h k. (refl, refl);
         marks = not-later file 11 f (omega arith);
         strict-beyond = kept-refl (planOf s .points * planOf s .points) strict;
@@ -92,7 +93,7 @@ module _ (s : List ℕ) where
 
   check-leaves : (file : Answer) → FileCode file → (strict weak : List ℤ) (a : Answer)
       → Checked version1 file (planOf s) strict weak a → CheckLeaves s strict weak a
-  check-leaves file f strict weak a (Checked.bad-file n) = record { code = inl (omega arith); place = place-named file }
+  check-leaves file f strict weak a (Checked.bad-file n) = record { code = inl (omega arith); place = place-named file (omega arith) }
   check-leaves file f strict weak a (Checked.short-room e r) = record { code = inl (omega arith); place = inl refl }
   check-leaves file f strict weak a (Checked.not-closed e r c) = record { code = inr refl; place = inl refl }
   check-leaves file f strict weak a (Checked.closed e r c) = record { code = inl (omega arith); place = inl refl }
@@ -102,7 +103,7 @@ module _ (s : List ℕ) where
   earliest-leaves file f strict weak times a strict′ weak′ times′ (Timed.bad-file n) =
       record {
         code = omega arith;
-        place = place-named file;
+        place = place-named file (omega arith);
         refusals = λ h k. (refl, refl);
         marks = not-later file 11 f (omega arith);
         no-times = λ h. refl;
@@ -157,12 +158,12 @@ module _ (s : List ℕ) where
 
   module _ (m : Limit) (strict weak scratch : List ℤ) where
     -- a refusal that clears the scratch and keeps the tables
-    cleared : (a : Answer) (scratch′ : List ℤ) → (codeOf a ≡ 11) ⊎ (codeOf a ≡ 12)
+    cleared : (a : Answer) (scratch′ : List ℤ) → placeOf a ≡ 0 → (codeOf a ≡ 11) ⊎ (codeOf a ≡ 12)
         → Filled (2 * (planOf s .points * planOf s .points)) (pos zero) scratch scratch′ → AddLeaves s m strict weak scratch a strict weak scratch′
-    cleared a scratch′ k c =
+    cleared a scratch′ z k c =
         record {
           code = inr k;
-          place = place-named a;
+          place = inl z;
           refusals = λ h. (refl, refl);
           scratch-kept = λ h l. absurd (⊎-elim (λ e. omega arith) (λ e. omega arith) k);
           scratch-cleared = λ h. c;
@@ -176,7 +177,7 @@ module _ (s : List ℕ) where
     kept-all a l h =
         record {
           code = inl h;
-          place = place-named a;
+          place = place-named a h;
           refusals = λ k. (refl, refl);
           scratch-kept = λ k q. refl;
           scratch-cleared = λ k. absurd (⊎-elim (λ e. omega arith) (λ e. omega arith) k);
@@ -189,9 +190,9 @@ module _ (s : List ℕ) where
         → Added version1 file (planOf s) m strict weak scratch a strict′ weak′ scratch′ → AddLeaves s m strict weak scratch a strict′ weak′ scratch′
     add-leaves file f a strict′ weak′ scratch′ (Added.bad-file n) = kept-all file (refusal file n) (omega arith)
     add-leaves file f a strict′ weak′ scratch′ (Added.short-room e r) = kept-all ShortRoom (omega arith) (omega arith)
-    add-leaves file f a strict′ weak′ scratch′ (Added.not-closed e r l c d) = cleared NotClosed scratch′ (inr refl) d
-    add-leaves file f a strict′ weak′ scratch′ (Added.uncontrollable e r l c u d) = cleared NotControllable scratch′ (inl refl) d
-    add-leaves file f a strict′ weak′ scratch′ (Added.beyond e r l c t b d) = cleared NotClosed scratch′ (inr refl) d
+    add-leaves file f a strict′ weak′ scratch′ (Added.not-closed e r l c d) = cleared NotClosed scratch′ refl (inr refl) d
+    add-leaves file f a strict′ weak′ scratch′ (Added.uncontrollable e r l c u d) = cleared NotControllable scratch′ refl (inl refl) d
+    add-leaves file f a strict′ weak′ scratch′ (Added.beyond e r l c t b d) = cleared NotClosed scratch′ refl (inr refl) d
     add-leaves file f a strict′ weak′ scratch′ (Added.added e r l c t b d) =
         record {
           code = inl (omega arith);

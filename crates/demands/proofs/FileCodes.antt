@@ -1,4 +1,4 @@
--- A file's own answer has a code of at most 8, with or without Add's limit; and only codes 6, 7 and 8 have a place. Assumes nothing.
+-- A file's own answer has a code of at most 8, with or without Add's limit; and of codes up to 9 only 6, 7 and 8 have a place. Assumes nothing.
 use mathlib.Core.Path.{refl}
 use mathlib.Core.Logic.{inl, inr}
 use mathlib.Core.List.{List}
@@ -7,7 +7,7 @@ use native.Mathlib.Omega.{arith}
 use lib.Dec.{leb, eqb}
 use lib.ListN.{length}
 use Rattle.rules.specs.declared.Answer.{Answer}
-use Rattle.rules.specs.declared.Answer.the-variants.{Done, FewBytes, BadVersion, BadPoints, BadCounts, BadLayout, BadLimit, BadLink, RepeatedLink, ShortRoom, HasLinks, NotControllable, NotClosed}
+use Rattle.rules.specs.declared.Answer.the-variants.{Done, FewBytes, BadVersion, BadPoints, BadCounts, BadLayout, BadLimit, BadLink, RepeatedLink, ShortRoom, HasLinks, NotControllable, ReasonsListed, NotClosed}
 use Rattle.rules.specs.Plan.{Limit, version1}
 use Rattle.rules.specs.Answers.{codeOf}
 use Rattle.answers.specs.Order.{_then_, unless}
@@ -17,20 +17,21 @@ use Rattle.plan.specs.File.{laidOut, formAnswer, limitAnswer, frontAnswer, back
 use Rattle.plan.proofs.PlanCodes.{Refusals, then-holds, unless-holds, limit-holds, front-holds, back-holds, plan-holds}
 use Rattle.demands.specs.Demand1.{PlaceNamed}
 
-pub place-named : (a : Answer) → PlaceNamed a
-place-named Done = inl refl
-place-named FewBytes = inl refl
-place-named BadVersion = inl refl
-place-named BadPoints = inl refl
-place-named BadCounts = inl refl
-place-named BadLayout = inl refl
-place-named (BadLimit i) = inr (omega arith)
-place-named (BadLink i) = inr (omega arith)
-place-named (RepeatedLink i) = inr (omega arith)
-place-named ShortRoom = inl refl
-place-named HasLinks = inl refl
-place-named NotControllable = inl refl
-place-named NotClosed = inl refl
+pub place-named : (a : Answer) → codeOf a ≤ 9 → PlaceNamed a
+place-named Done h = inl refl
+place-named FewBytes h = inl refl
+place-named BadVersion h = inl refl
+place-named BadPoints h = inl refl
+place-named BadCounts h = inl refl
+place-named BadLayout h = inl refl
+place-named (BadLimit i) h = inr (omega arith)
+place-named (BadLink i) h = inr (omega arith)
+place-named (RepeatedLink i) h = inr (omega arith)
+place-named ShortRoom h = inl refl
+place-named HasLinks h = inl refl
+place-named NotControllable h = inl refl
+place-named (ReasonsListed lines) h = absurd (omega arith)
+place-named NotClosed h = inl refl
 
 -- an answer with a code of a file
 abbrev pub FileCode : Answer → Type 0

@@ -2,7 +2,7 @@
 -- Assumes nothing.
 use Prim.Native.Nat.{ℕ}
 use Rattle.rules.specs.declared.Answer.{Answer}
-use Rattle.rules.specs.declared.Answer.the-variants.{Done, FewBytes, BadVersion, BadPoints, BadCounts, BadLayout, BadLimit, BadLink, RepeatedLink, ShortRoom, HasLinks, NotControllable, NotClosed}
+use Rattle.rules.specs.declared.Answer.the-variants.{Done, FewBytes, BadVersion, BadPoints, BadCounts, BadLayout, BadLimit, BadLink, RepeatedLink, ShortRoom, HasLinks, NotControllable, ReasonsListed, NotClosed}
 
 -- the table's first column
 abbrev pub codeOf : Answer → ℕ
@@ -18,9 +18,10 @@ codeOf (RepeatedLink i) = 8
 codeOf ShortRoom = 9
 codeOf HasLinks = 10
 codeOf NotControllable = 11
+codeOf (ReasonsListed lines) = 11
 codeOf NotClosed = 12
 
--- "Place is 0 unless named."
+-- "Place is 0 unless named." Document 02, item 4: "A refused night answers 11, with the number of lines as place."
 abbrev pub placeOf : Answer → ℕ
 placeOf Done = 0
 placeOf FewBytes = 0
@@ -34,4 +35,5 @@ placeOf (RepeatedLink i) = i
 placeOf ShortRoom = 0
 placeOf HasLinks = 0
 placeOf NotControllable = 0
+placeOf (ReasonsListed lines) = lines
 placeOf NotClosed = 0

@@ -28,6 +28,8 @@ pub enum Answer {
     HasLinks,
     // 11: Judge, Earliest, Add: uncontrollable
     NotControllable,
+    // 11 from Reasons: uncontrollable; how many lines the list has
+    ReasonsListed(u32),
     // 12: tables not closed, or a cell of Add's result out of range
     NotClosed,
 }
