@@ -19,7 +19,7 @@ use Rattle.whole.proofs.Bits.{signed, kept, back, abs, by-nonNeg, lt-ltZ, le-lt
 use Rattle.rules.specs.Plan.{Ranges, Link, version1}
 use Rattle.rules.specs.Edges.{spread}
 use Rattle.rules.specs.Cells.{Cell, mark, num, cellOf, _+ᶜ_, lowered, uppered, Within}
-use Rattle.cell.specs.Steps.{adding, isMark, belowᶜ, Stored, Summed, clamped, height, Decides}
+use Rattle.cell.specs.Steps.{adding, roomy, isMark, belowᶜ, Stored, Summed, clamped, height, Decides}
 
 -- ---- the mark and the numbers beside it
 
@@ -125,6 +125,17 @@ room32 = record { top = refl; wide = omega arith; weight = omega arith }
 pub room64 : Room w64 adding
 unfolding adding
 room64 = record { top = refl; wide = omega arith; weight = omega arith }
+
+-- and of the cells that may be added to
+pub room-roomy : Room w64 roomy
+unfolding adding
+room-roomy = record { top = refl; wide = omega arith; weight = omega arith }
+
+-- a cell that a sweep of Add holds may be added to
+pub stored-roomy : (c : Cell) → Stored (adding .reach) c → Stored (roomy .reach) c
+unfolding adding
+stored-roomy mark h = tt
+stored-roomy (num a) h = (omega (ints, h .0), omega (ints, h .1))
 
 -- a cell that is a number of the reach or the floor
 pub record Number (r : Ranges) (a : ℤ) : Type 0 where

@@ -7,29 +7,16 @@ use lib.Dec.{eqb}
 use lib.IntN.{ℤ, pos, negsuc, negℤ}
 use lib.Signed.{ltZ, ≤ℤ-refl}
 use borrow.Author.Tests.{eqb-true}
-use Rattle.whole.proofs.Order.{ints, plus, neg, ≤ℤ-trans, ≤ℤ-antisym, plus-mono}
+use Rattle.whole.proofs.Order.{ints, plus, neg, ≤ℤ-antisym, plus-mono}
 use Rattle.whole.proofs.Bits.{signed, le-ltZ}
 use Rattle.rules.specs.Plan.{Link}
 use Rattle.rules.specs.Edges.{spread}
 use Rattle.rules.specs.Cells.{Cell, mark, num, cellOf, _+ᶜ_, _≤ᶜ_, Within}
+pub use Rattle.rules.proofs.Cells.{≤ᶜ-refl, ≤ᶜ-trans, ≤ᶜ-mark}
 use Rattle.cell.specs.Steps.{belowᶜ, smallerᶜ, Stored, clamped, numberOf}
 use Rattle.cell.proofs.CellMethods.{mark-is, number-is}
 
 -- ---- the order
-
--- no cell exceeds itself
-pub ≤ᶜ-refl : (a : Cell) → a ≤ᶜ a
-≤ᶜ-refl mark = tt
-≤ᶜ-refl (num a) = ≤ℤ-refl a
-
--- the order is transitive
-pub ≤ᶜ-trans : (a b c : Cell) → a ≤ᶜ b → b ≤ᶜ c → a ≤ᶜ c
-≤ᶜ-trans mark mark c h k = k
-≤ᶜ-trans mark (num b) c h k = absurd h
-≤ᶜ-trans (num a) mark mark h k = tt
-≤ᶜ-trans (num a) mark (num c) h k = absurd k
-≤ᶜ-trans (num a) (num b) mark h k = tt
-≤ᶜ-trans (num a) (num b) (num c) h k = ≤ℤ-trans h k
 
 -- two cells that do not exceed each other are equal
 pub ≤ᶜ-antisym : (a b : Cell) → a ≤ᶜ b → b ≤ᶜ a → a ≡ b
@@ -37,11 +24,6 @@ pub ≤ᶜ-antisym : (a b : Cell) → a ≤ᶜ b → b ≤ᶜ a → a ≡ b
 ≤ᶜ-antisym mark (num b) h k = absurd h
 ≤ᶜ-antisym (num a) mark h k = absurd k
 ≤ᶜ-antisym (num a) (num b) h k = ap num (≤ℤ-antisym h k)
-
--- nothing exceeds the mark
-pub ≤ᶜ-mark : (a : Cell) → a ≤ᶜ mark
-≤ᶜ-mark mark = tt
-≤ᶜ-mark (num a) = tt
 
 -- sums are monotone
 pub +ᶜ-mono : (a b c d : Cell) → a ≤ᶜ b → c ≤ᶜ d → (a +ᶜ c) ≤ᶜ (b +ᶜ d)

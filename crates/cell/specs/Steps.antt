@@ -15,6 +15,18 @@ unfoldable pub adding : Ranges
 adding =
     record { points = 64; limits = 4_033; links = 32; weight = 63_000_000; mark = 9_223_372_036_854_775_807; reach = 3_969_000_000 }
 
+-- how far from zero a 64-bit cell may lie to be added to: the same weights and the same mark, and a reach of which two make no number as large as the mark
+abbrev pub roomy : Ranges
+roomy =
+    record {
+      points = adding .points;
+      limits = adding .limits;
+      links = adding .links;
+      weight = adding .weight;
+      mark = adding .mark;
+      reach = 2_000_000_000_000_000_000;
+    }
+
 -- a number of a 32-bit table as a cell, and one of a 64-bit table
 abbrev pub cell32 : ℤ → Cell
 cell32 v = cellOf (version1 .mark) v

@@ -3,14 +3,14 @@ use crate::Cell32;
 ghost use mathlib.Core.Path.{_≡_};
 ghost use Prim.Native.Nat.{ℕ, _≤_};
 ghost use lib.IntN.{pos, negℤ, _+ℤ_, _-ℤ_};
-ghost use lib.Signed.{ltZ};
+ghost use lib.Signed.{ltZ, _≤ℤ_};
 ghost use mir.Syntax.{w64};
 ghost use mir.Val.{SFits};
 ghost use Rattle.whole.specs.Signed.{larger};
 ghost use Rattle.rules.specs.Plan.{Link, version1};
 ghost use Rattle.rules.specs.Edges.{spread as spreadOf};
 ghost use Rattle.rules.specs.Cells.{mark, _+ᶜ_, lowered, uppered, Within};
-ghost use Rattle.cell.specs.Steps.{adding, cell32, cell64, isMark, belowᶜ, smallerᶜ, Stored, clamped, height, Decides};
+ghost use Rattle.cell.specs.Steps.{adding, roomy, cell32, cell64, isMark, belowᶜ, smallerᶜ, Stored, clamped, height, Decides};
 
 // A cell of the tables that Add works in. The mark is 9,223,372,036,854,775,807, the reach 63 times 63,000,000.
 pub struct Cell64 {
@@ -33,6 +33,21 @@ impl Cell64 {
         ensures { λ r. ⌜ r .v ≡ pos n ⌝ }
     {
         Cell64 { v: n as i64 }
+    }
+
+    // The number of a line of a reason list in a cell, and back.
+    pub fn of_number(n: u64) -> Cell64
+        requires { ⌜ n ≤ roomy .reach ⌝ }
+        ensures { λ r. ⌜ r .v ≡ pos n ⌝ }
+    {
+        Cell64 { v: n as i64 }
+    }
+
+    pub fn number(self) -> u64
+        requires { ⌜ pos 0 ≤ℤ self .v ⌝ }
+        ensures { λ r. ⌜ pos r ≡ self .v ⌝ }
+    {
+        self.v as u64
     }
 
     // The arithmetic of numbers, on the numbers themselves.
@@ -128,7 +143,7 @@ impl Cell64 {
 
     // Join: the sum of the cells P to Q and Q to R, exact. The mark is never added as a number.
     pub fn add(self, o: Cell64) -> Cell64
-        requires { ⌜ Stored (adding .reach) (cell64 (self .v)) × Stored (adding .reach) (cell64 (o .v)) ⌝ }
+        requires { ⌜ Stored (roomy .reach) (cell64 (self .v)) × Stored (roomy .reach) (cell64 (o .v)) ⌝ }
         ensures { λ r. ⌜ cell64 (r .v) ≡ cell64 (self .v) +ᶜ cell64 (o .v) ⌝ }
     {
         if self.is_mark() {
@@ -142,7 +157,7 @@ impl Cell64 {
 
     // Lower, from the cell C to R: the shortest span of C's link and the spread of R's.
     pub fn lower(self, short: u32, spread: u32) -> Cell64
-        requires { ⌜ Stored (adding .reach) (cell64 (self .v)) × (short ≤ adding .weight) × (spread ≤ adding .weight) ⌝ }
+        requires { ⌜ Stored (roomy .reach) (cell64 (self .v)) × (short ≤ adding .weight) × (spread ≤ adding .weight) ⌝ }
         ensures { λ r. ⌜ ((k j : Link) → k .short ≡ short → spreadOf j ≡ pos spread → cell64 (r .v) ≡ lowered k j (cell64 (self .v))) ⌝ }
     {
         if self.is_mark() {
@@ -156,7 +171,7 @@ impl Cell64 {
 
     // Upper, from the cell P to C: the spans of C's link. The larger of v - u and -l.
     pub fn upper(self, short: u32, long: u32) -> Cell64
-        requires { ⌜ Stored (adding .reach) (cell64 (self .v)) × (short ≤ adding .weight) × (long ≤ adding .weight) ⌝ }
+        requires { ⌜ Stored (roomy .reach) (cell64 (self .v)) × (short ≤ adding .weight) × (long ≤ adding .weight) ⌝ }
         ensures { λ r. ⌜ ((k : Link) → k .short ≡ short → k .long ≡ long → cell64 (r .v) ≡ uppered k (cell64 (self .v))) ⌝ }
     {
         if self.is_mark() {

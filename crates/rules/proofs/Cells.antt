@@ -7,7 +7,7 @@ use native.Mathlib.Omega.{arith}
 use lib.Dec.{T}
 use lib.IntN.{ℤ, pos, negℤ, _+ℤ_, _-ℤ_}
 use lib.Signed.{ltZ, _≤ℤ_, _<ℤ_, ≤ℤ-refl}
-use Rattle.whole.proofs.Order.{ints, plus-mono}
+use Rattle.whole.proofs.Order.{ints, plus-mono, ≤ℤ-trans}
 use Rattle.whole.proofs.Larger.{larger-mono}
 use Rattle.rules.specs.Plan.{Link}
 use Rattle.rules.specs.Edges.{spread, upper-weight}
@@ -80,3 +80,24 @@ upper-mono k {u} {v} h =
 pub uppered-at-most : (k : Link) {c : Cell} {v : ℤ} → AtMost c v → AtMost (uppered k c) (upper-weight k v)
 uppered-at-most k {c = mark} a = absurd (mark-no-number (a .is))
 uppered-at-most k {c = num u} {v} a = record { value = upper-weight k u; is = refl; le = upper-mono k (by-at-most a) }
+
+-- ---- the order of cells
+
+-- no cell exceeds itself
+pub ≤ᶜ-refl : (a : Cell) → a ≤ᶜ a
+≤ᶜ-refl mark = tt
+≤ᶜ-refl (num a) = ≤ℤ-refl a
+
+-- the order is transitive
+pub ≤ᶜ-trans : (a b c : Cell) → a ≤ᶜ b → b ≤ᶜ c → a ≤ᶜ c
+≤ᶜ-trans mark mark c h k = k
+≤ᶜ-trans mark (num b) c h k = absurd h
+≤ᶜ-trans (num a) mark mark h k = tt
+≤ᶜ-trans (num a) mark (num c) h k = absurd k
+≤ᶜ-trans (num a) (num b) mark h k = tt
+≤ᶜ-trans (num a) (num b) (num c) h k = ≤ℤ-trans h k
+
+-- nothing exceeds the mark
+pub ≤ᶜ-mark : (a : Cell) → a ≤ᶜ mark
+≤ᶜ-mark mark = tt
+≤ᶜ-mark (num a) = tt

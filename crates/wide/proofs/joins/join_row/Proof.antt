@@ -1,6 +1,7 @@
 -- `joins::join_row` meets its contract: a row whose cell to the middle is the mark stays, and else a turn for each cell of it. Assumes nothing.
 use Rattle.lowering.proofs.Common.{_-_, adding, cell64, mark-read, joinCell, Turns, turns-none, turns-more, turns-all, row-at-mark}
 use Rattle.lowering.proofs.Common.{read-stored, join-cell-is, join-row-is, cell-lowers, needs}
+use Rattle.cell.proofs.CellMethods.{stored-roomy}
 use Rattle.wide.proofs.AddStart.{adding-coherent}
 use Rattle.wide.proofs.joins.join_row.Statement.{statement}
 use Rattle.wide.proofs.joins.join_row.Tie as tie
@@ -16,7 +17,7 @@ join-row-spec =
     (λ c. search (row-at-mark, mark-read, needs))
     (λ c. turns-none (c .before .before .before .before .pre .3))
     (λ c κs. search needs)
-    (λ c κs. search (read-stored, needs))
+    (λ c κs. search (stored-roomy, read-stored, needs))
     (λ c κs. search needs) (λ c. search needs) (λ c. search needs)
     (λ c. search (turns-more, join-cell-is, cell-lowers adding adding-coherent, needs))
     (λ c. search needs)
