@@ -1,0 +1,2 @@
+-- A reason list as a slice of line structs.
+pub mod Reads
