@@ -66,12 +66,14 @@ enum post_code {
     POST_REPEATED_LINK = 8,     /* a link repeats an earlier one's contingent point; place: the later index */
     POST_SHORT_ROOM = 9,        /* a lent slice is shorter than needed: n x n cells in each table, 2 x n x n in the
                                    scratch of post_add, n times of post_earliest, the file's bytes in the buffer of
-                                   post_write */
+                                   post_write, 4 x n x n cells in the work room of post_reasons; post_reasons: also a
+                                   list longer than its room */
     POST_HAS_LINKS = 10,        /* post_earliest: the plan has links */
     POST_NOT_CONTROLLABLE = 11, /* not for every choice of durations: whatever is done, there are durations within their
                                    bounds, known only once they have passed, for which a limit is broken; without
                                    links: no timetable meets the limits; post_add: so with the new limit; post_check
                                    gives 12 instead */
+    POST_REASONS_LISTED = 11,   /* post_reasons: so too, and the list is written; place: the number of its lines */
     POST_NOT_CLOSED = 12        /* the tables are not closed for the plan: do not use them; post_add: also a result
                                    beyond POST_REACH */
 };
@@ -174,6 +176,69 @@ uint64_t post_add(const uint8_t *file, size_t file_len, uint32_t x, uint32_t y, 
  * changes with 0 only. 12,824 bytes are room for every plan.
  */
 uint64_t post_write(uint32_t n, const uint32_t *from, size_t from_len, const uint32_t *to, size_t to_len, const int32_t *weight, size_t weight_len, const uint32_t *act, size_t act_len, const uint32_t *con, size_t con_len, const uint32_t *shortest, size_t shortest_len, const uint32_t *longest, size_t longest_len, uint8_t *buffer, size_t buffer_len);
+
+/*
+ * The kinds of a reason's line. A line from x to y of weight w says: point y comes at most w seconds after point x.
+ * Kinds 1 to 4 stand in the plan and kinds 6 to 8 follow from such lines; all these are strict. Kind 5 stands for the
+ * link's shortest duration, and kind 9 follows from lines of any kind.
+ */
+enum post_kind {
+    POST_START_EDGE = 1,        /* nothing precedes the start: from any other point to point 0, weight 0 */
+    POST_LIMIT = 2,             /* a limit; first: its index in the file */
+    POST_LINK_LONGEST = 3,      /* from a link's activation to its end, weight longest; first: the link's index */
+    POST_LINK_SHORTEST = 4,     /* from a link's end to its activation, weight -shortest; first: the link's index */
+    POST_LOWER_CASE = 5,        /* from a link's activation to its end, weight shortest; first: the link's index */
+    POST_STRICT_JOIN = 6,       /* two strict lines, the second from where the first leads; weight: their sum */
+    POST_LOWER = 7,             /* first: a link's line of kind 5; second: a strict line from that link's end to another
+                                   link's end, lighter than longest - shortest of that other link; from the first link's
+                                   activation to the other link's end, weight: their sum */
+    POST_UPPER = 8,             /* first: a strict line to a link's end; second: that link's line of kind 3; from where
+                                   the first begins to the link's activation, weight: the first's less longest, but at
+                                   least -shortest */
+    POST_OPEN_JOIN = 9          /* two lines of any kind, the second from where the first leads; weight: their sum */
+};
+
+/*
+ * Reasons: why post_judge refuses a plan file with 11, as a list that a person can follow by hand. Line i stands at
+ * index i of six lists: kinds, froms, tos, weights, and two references, firsts and seconds, each the number of an
+ * earlier line, counted from 0, unless post_kind says otherwise; a reference that is not used is 0. The last line leads
+ * from a point to itself with a weight below 0, which no night can meet, and no earlier line does.
+ *
+ *   0        the plan is controllable, as post_judge has it, and there is no list. No list is changed, and any room,
+ *            also none, is enough
+ *   1 to 8   the file is refused; nothing changes
+ *   9        the work room has fewer than 4 x n x n cells; nothing changes. Or the list is longer than its room, which
+ *            is the shortest of the six lists; then no list is changed
+ *   11       the plan is refused, and the list is written; place: the number of its lines
+ *
+ * The list is fixed by the file: start edges by point, limits in the file's order, each link's lines of kinds 3, 4 and
+ * 5, and then sweeps, each of strict joins by middle, from and to, Lower by link and second link, Upper by point and
+ * link, and open joins by middle, from and to. The three lines of each link are always written, any other line only if
+ * it is below the pair's best so far: for kinds 1, 2 and 6 to 8 that of its strict lines, for kind 9 that of all its
+ * lines. From a point to itself the best is 0 before there is a line. A line follows from the best lines of their pairs
+ * at that moment, the older one where two weigh the same.
+ *
+ * Lent: the file, six lists and a work room (work_len cells of int64_t), all of which may hold anything. The lists
+ * change with 11 only, and what lies past the list's lines never does. The first 4 x n x n cells of the work room are 0
+ * after 0, 11 and the 9 of a list too long; cells beyond never change.
+ */
+uint64_t post_reasons(const uint8_t *file, size_t file_len, uint32_t *kinds, size_t kinds_len, uint32_t *froms, size_t froms_len, uint32_t *tos, size_t tos_len, int64_t *weights, size_t weights_len, uint32_t *firsts, size_t firsts_len, uint32_t *seconds, size_t seconds_len, int64_t *work, size_t work_len);
+
+/*
+ * Rests: how many lines of a reason list one line rests on, itself not counted, and a line counted as often as it is
+ * come to. The answer is that number, with no code and no place; above 1,000,000 it is 1,000,000.
+ *
+ * Lines of kinds 6 to 9 rest on the two lines that they name, and on what those rest on; lines of kinds 1 to 5 rest on
+ * none. Any lists may be lent: the list ends with the shortest of the three; a line past it, or of no kind, gives 0; a
+ * reference that is not below its line's own number adds 0.
+ *
+ * Lent: kinds, firsts and seconds as post_reasons left them; they are only read.
+ *
+ * Stack: calls nest where lines name lines, at most as deep as the number of the line asked for, and at most 1,000,000
+ * deep, at 160 bytes each. Lists of post_reasons were seen to nest 10 deep; of lists from elsewhere ask for no line with
+ * a larger number than the stack has room for.
+ */
+uint32_t post_rests(const uint32_t *kinds, size_t kinds_len, const uint32_t *firsts, size_t firsts_len, const uint32_t *seconds, size_t seconds_len, uint32_t line);
 
 #ifdef __cplusplus
 }

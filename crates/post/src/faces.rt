@@ -1,9 +1,13 @@
 // The calls as C calls them (include/post.h). An answer passes as one 64-bit number.
 ghost use mathlib.Core.Path.{_≡_};
+ghost use Prim.Native.Nat.{min};
 ghost use Rattle.rules.specs.Plan.{version1};
 ghost use Rattle.rules.specs.Calls.{Judged, Checked, Timed, Added};
 ghost use Rattle.plan.specs.Layout.{planOf};
 ghost use Rattle.plan.specs.File.{fileAnswer, addAnswer};
+ghost use Rattle.chain.specs.Call.{Reasoned};
+ghost use Rattle.reasons.specs.Notes.{columns};
+ghost use Rattle.rests.specs.Rests.{restsOn, largest};
 ghost use Rattle.writing.specs.PlanLists.{lists};
 ghost use Rattle.writing.specs.Wrote.{Wrote};
 ghost use Rattle.post.specs.Faces.{packedOf, Packed, PackedAdd};
@@ -13,6 +17,8 @@ use crate::timing::earliest;
 use adding::add;
 use answers::code;
 use answers::place;
+use reasons::reasons;
+use rests::rests;
 use rules::Answer;
 use writing::write;
 
@@ -84,4 +90,29 @@ pub extern "C" fn post_write(
     ensures { λ r. ⌜ Packed (λ a. Wrote (lists n (now (from .entry)) (now (to .entry)) (now (weight .entry)) (now (act .entry)) (now (con .entry)) (now (shortest .entry)) (now (longest .entry))) (now (buffer .entry)) a (now (buffer .exit))) r ⌝ }
 {
     packed(write(n, from, to, weight, act, con, shortest, longest, buffer))
+}
+
+// Reasons.
+#[no_mangle]
+pub extern "C" fn post_reasons(
+    file: &[u8],
+    kinds: &mut [u32],
+    froms: &mut [u32],
+    tos: &mut [u32],
+    weights: &mut [i64],
+    firsts: &mut [u32],
+    seconds: &mut [u32],
+    work: &mut [i64],
+) -> u64
+    ensures { λ r. ⌜ Packed (λ a. Reasoned (fileAnswer (now (file .entry))) (planOf (now (file .entry))) (columns (now (kinds .entry)) (now (froms .entry)) (now (tos .entry)) (now (weights .entry)) (now (firsts .entry)) (now (seconds .entry))) (now (work .entry)) a (columns (now (kinds .exit)) (now (froms .exit)) (now (tos .exit)) (now (weights .exit)) (now (firsts .exit)) (now (seconds .exit))) (now (work .exit))) r ⌝ }
+{
+    packed(reasons(file, kinds, froms, tos, weights, firsts, seconds, work))
+}
+
+// Rests: a number, no answer.
+#[no_mangle]
+pub extern "C" fn post_rests(kinds: &[u32], firsts: &[u32], seconds: &[u32], line: u32) -> u32
+    ensures { λ r. ⌜ r ≡ min (restsOn (now (kinds .entry)) (now (firsts .entry)) (now (seconds .entry)) line) largest ⌝ }
+{
+    rests(kinds, firsts, seconds, line)
 }
