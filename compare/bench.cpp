@@ -2,8 +2,6 @@
 // in plain C++, source document 001's RUL- algorithm for the verdict alone and with the two tables that a post would still need, and Boost's
 // Floyd-Warshall on plans without links.
 // A repeat times every contestant once, one after the other, so that a slow moment falls on all; ratios are taken within a repeat.
-#include <pthread.h>
-#include <sys/mman.h>
 #include <time.h>
 
 #include <algorithm>
@@ -18,6 +16,7 @@
 #include "post.h"
 #include "random.hpp"
 #include "rul.hpp"
+#include "stack.hpp"
 #include "sweep.hpp"
 
 namespace {
@@ -199,30 +198,6 @@ void print(const Report &report) {
 }
 
 // ---- stack ----
-
-// Bytes of stack that a call touches below its caller: it is run on a painted stack.
-std::size_t stack_of(const std::function<void()> &call) {
-  static const std::function<void()> *running;
-  constexpr std::size_t size = 1024 * 1024;
-  const auto touched = [&](const std::function<void()> &what) {
-    void *stack = mmap(nullptr, size, PROT_READ | PROT_WRITE, MAP_PRIVATE | MAP_ANONYMOUS, -1, 0);
-    std::memset(stack, 0xa5, size);
-    running = &what;
-    pthread_attr_t attributes;
-    pthread_attr_init(&attributes);
-    pthread_attr_setstack(&attributes, stack, size);
-    pthread_t thread;
-    if (pthread_create(&thread, &attributes, [](void *) -> void * { (*running)(); return nullptr; }, nullptr) != 0) return std::size_t(0);
-    pthread_join(thread, nullptr);
-    const auto *bytes = static_cast<const std::uint8_t *>(stack);
-    std::size_t untouched = 0;
-    while (untouched < size && bytes[untouched] == 0xa5) ++untouched;
-    munmap(stack, size);
-    return size - untouched;
-  };
-  const std::size_t with = touched(call), without = touched([] {});
-  return with > without ? with - without : 0;
-}
 
 void print_stack(const char *name, decltype(&post_judge) judge, decltype(&post_check) check, decltype(&post_add) add, decltype(&post_write) write,
                  const Prepared &p) {

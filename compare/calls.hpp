@@ -1,6 +1,7 @@
 // The calls as one value, so that the reference and the linked library are run by the same code.
 #pragma once
 #include "post.h"
+#include "reasons.hpp"
 #include "reference.hpp"
 
 struct Calls {
@@ -10,11 +11,13 @@ struct Calls {
   decltype(&post_earliest) earliest;
   decltype(&post_add) add;
   decltype(&post_write) write;
+  decltype(&post_reasons) reasons;
+  decltype(&post_rests) rests;
 };
 
-inline const Calls reference_calls = {"reference", reference::check, reference::judge, reference::earliest, reference::add,
-                                      reference::write};
-inline const Calls linked_calls = {"linked", post_check, post_judge, post_earliest, post_add, post_write};
+inline const Calls reference_calls = {"reference",    reference::check, reference::judge,   reference::earliest,
+                                      reference::add, reference::write, reference::reasons, reference::rests};
+inline const Calls linked_calls = {"linked", post_check, post_judge, post_earliest, post_add, post_write, post_reasons, post_rests};
 
 inline std::uint32_t code_of(std::uint64_t answer) { return std::uint32_t(answer); }
 inline std::uint32_t place_of(std::uint64_t answer) { return std::uint32_t(answer >> 32); }

@@ -11,7 +11,7 @@
 
 namespace {
 
-constexpr std::size_t ground_size = 512 * 1024, fence = 64 * 1024;  // a multiple of every page size in use
+constexpr std::size_t ground_size = 8 * 1024 * 1024, fence = 64 * 1024;  // a multiple of every page size in use
 constexpr unsigned patience = 10;  // seconds; the largest plan takes a tenth of one under an emulator
 
 sigjmp_buf back;
@@ -31,15 +31,20 @@ void watch() {
   static bool watching = false;
   if (watching) return;
   watching = true;
+  static std::uint8_t aside[64 * 1024];  // so that a call that ran out of stack is reported too
+  stack_t stack = {};
+  stack.ss_sp = aside;
+  stack.ss_size = sizeof aside;
+  sigaltstack(&stack, nullptr);
   struct sigaction action = {};
   action.sa_handler = stopped;
-  action.sa_flags = SA_NODEFER;
+  action.sa_flags = SA_NODEFER | SA_ONSTACK;
   for (int number : {SIGSEGV, SIGBUS, SIGILL, SIGFPE, SIGABRT, SIGTRAP, SIGALRM}) sigaction(number, &action, nullptr);
 }
 
 Ended stopped_by(int number) {
   if (number == SIGALRM) return {0, true, "it did not come back within " + std::to_string(patience) + " seconds"};
-  return {0, false, "it was stopped by signal " + std::to_string(number) + ", as a touch outside what it was lent is"};
+  return {0, false, "it was stopped by signal " + std::to_string(number) + ", as a touch outside what it was lent is, or running out of stack"};
 }
 
 }  // namespace

@@ -26,3 +26,15 @@ uint64_t post_write(uint32_t n, const uint32_t *from, size_t from_len, const uin
   return sweep::write(n, from, from_len, to, to_len, weight, weight_len, act, act_len, con, con_len, shortest, shortest_len, longest,
                       longest_len, buffer, buffer_len);
 }
+
+uint64_t post_reasons(const uint8_t *file, size_t file_len, uint32_t *kinds, size_t kinds_len, uint32_t *froms, size_t froms_len, uint32_t *tos,
+                      size_t tos_len, int64_t *weights, size_t weights_len, uint32_t *firsts, size_t firsts_len, uint32_t *seconds,
+                      size_t seconds_len, int64_t *work, size_t work_len) {
+  return sweep::reasons(file, file_len, kinds, kinds_len, froms, froms_len, tos, tos_len, weights, weights_len, firsts, firsts_len, seconds,
+                        seconds_len, work, work_len);
+}
+
+uint32_t post_rests(const uint32_t *kinds, size_t kinds_len, const uint32_t *firsts, size_t firsts_len, const uint32_t *seconds,
+                    size_t seconds_len, uint32_t line) {
+  return sweep::rests(kinds, kinds_len, firsts, firsts_len, seconds, seconds_len, line);
+}

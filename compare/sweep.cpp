@@ -334,6 +334,11 @@ std::uint64_t fill(const View &view, std::int32_t *strict, std::int32_t *open) {
 
 unsigned sweeps_of_last() { return last_sweeps; }
 
+std::uint64_t sound(const std::uint8_t *file, std::size_t file_len) {
+  View view;
+  return open_file(view, file, file_len, nullptr);
+}
+
 std::uint64_t check(const std::uint8_t *file, std::size_t file_len, const std::int32_t *strict, std::size_t strict_len,
                     const std::int32_t *open, std::size_t open_len) {
   View view;

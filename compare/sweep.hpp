@@ -1,6 +1,9 @@
 // Plain C++ beside the library: the full sweep and a plain writer, which are the benchmark's measure and stand in for the library until that is
 // built, and the library's own way. Parameters and answers are those of post.h.
 #pragma once
+#include <cstddef>
+#include <cstdint>
+
 #include "post.h"
 
 namespace sweep {
@@ -10,11 +13,16 @@ decltype(post_judge) judge;
 decltype(post_earliest) earliest;
 decltype(post_add) add;
 decltype(post_write) write;
+decltype(post_reasons) reasons;  // these two in lines.cpp
+decltype(post_rests) rests;
+
+// Codes 1 to 8 of a file, with their places; else 0.
+std::uint64_t sound(const std::uint8_t *file, std::size_t file_len);
 
 // Judge in the library's way: one pass of joins, then one edge after the other spread through both tables (sweep.cpp, SpreadTables).
 decltype(post_judge) judge_by_spreading;
 
-// Sweeps, or rounds of spreading, that the last call took, the one that changed nothing included; 0 where it came to none.
+// Sweeps, or rounds of spreading, that the last call took, the one that changed nothing included; 0 where it came to none. Not of a reason list.
 unsigned sweeps_of_last();
 
 }  // namespace sweep
