@@ -15,7 +15,7 @@ build() {
   local program=$here/target/bin/$1 log
   if ! command -v rt >/dev/null 2>&1; then say "the Rattle toolchain's command rt is not on the PATH"; exit 2; fi
   if [ -x "$program" ] && [ -z "$(find "$here/crates" -newer "$program" -path '*/src/*' -print -quit)" ]; then return; fi
-  say "proving the library and building the program; the first time this takes two to four minutes"
+  say "proving the library and building the program; the first time this takes up to ten minutes"
   log=$(mktemp)
   if ! (cd "$here" && rt check "$1") >"$log" 2>&1; then
     say "the program was not built; the last lines of the build:"
