@@ -18,7 +18,7 @@ use Rattle.rules.specs.Rows.{chosen, hasRow, OwnCells, RowHanded}
 use Rattle.plan.specs.Layout.{planOf}
 use Rattle.plan.specs.File.{fileAnswer, addAnswer}
 
--- "Place is 0 unless named": only codes 6, 7 and 8 name one
+-- "Place is 0 unless named": of these calls only codes 6, 7 and 8 name one
 abbrev pub PlaceNamed : Answer → Type 0
 PlaceNamed a = (placeOf a ≡ 0) ⊎ ((6 ≤ codeOf a) × (codeOf a ≤ 8))
 
