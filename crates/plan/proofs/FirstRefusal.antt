@@ -10,12 +10,15 @@ use borrow.Author.Tests.{le-leb, lt-leb, eq-eqb, ne-eqb, not-true, not-false}
 use Rattle.rules.specs.Plan.{Limit, Ranges, version1}
 use Rattle.rules.specs.Answers.{codeOf}
 use Rattle.rules.specs.declared.Answer.{Answer}
-use Rattle.rules.specs.declared.Answer.the-variants.{Done, FewBytes, BadVersion, BadPoints, BadCounts, BadLayout, BadLimit}
+use Rattle.rules.specs.declared.Answer.the-variants.{Done, FewBytes, BadVersion, BadPoints, BadCounts, BadLayout}
 use Rattle.plan.specs.declared.Header.{Header}
 use Rattle.plan.specs.Layout.{headOf, limitAt, linkAt, records, planOf}
-use Rattle.plan.specs.File.{pointsFit, countsFit, laidOut, countsAnswer, limitFits, limitPlace, limitsAnswer, linksAnswer, fileFront, fileAnswer, addAnswer}
-use Rattle.plan.proofs.FileParts.{headAnswer, front-parts, file-parts}
+use Rattle.plan.specs.File.{pointsFit, countsFit, laidOut, formAnswer, countsAnswer, limitAnswer, limitsAnswer, linksAnswer, fileFront, fileAnswer, addAnswer}
+use Rattle.answers.proofs.CodeZero.{then-done}
+use Rattle.plan.proofs.FileParts.{limits-length, headAnswer, to-limits, front-parts, file-parts}
 use Rattle.plan.proofs.TestsMade.{failed, passed}
+use Rattle.plan.proofs.TestsDecide.{CountsOk, counts-ok}
+use Rattle.plan.proofs.SoundFile.{is-accepted}
 
 -- ---- n, m and k
 
@@ -53,12 +56,22 @@ module _ (size : ℕ) (h : Header) where
         → b ≡ headAnswer size h
     head-next v e q = rw (le-leb 24 size room, eq-eqb (h .version) 1 v) (q ∙ rw e)
 
+-- past those tests n, m and k are in range
+head-counts : (size : ℕ) (h : Header) → headAnswer size h ≡ Done → CountsOk version1 (h .points) (h .limits) (h .links) (laidOut size h)
+head-counts size h e =
+    let laid = laidOut size h in
+    counts-ok version1 (h .points) (h .limits) (h .links) laid
+    (then-done (formAnswer size h) (countsAnswer version1 (h .points) (h .limits) (h .links) laid) e .1)
+
 module _ (s : List ℕ) {a : Answer} {t : Bool} (e : t ≡ eqb (codeOf a) 0) where
   -- ---- the header, then the limits
 
   module _ {h : Header} (q : h ≡ headOf s) (p : a ≡ headAnswer (length s) h) where
     pub front-stop : not t ≡ true → a ≡ fileFront s
     front-stop u = rw (front-parts s, ← q, ← p, failed e u)
+
+    pub past-head : not t ≡ false → h .limits ≤ version1 .limits
+    past-head u = head-counts (length s) h (is-accepted (headAnswer (length s) h) p e u) .limits
 
     pub front-next : not t ≡ false
         → {b : Answer}
@@ -78,21 +91,32 @@ module _ (s : List ℕ) {a : Answer} {t : Bool} (e : t ≡ eqb (codeOf a) 0) whe
     add-stop added u = rw (← p, failed e u)
 
     module _ (u : not t ≡ false) {h : Header} (q : h ≡ headOf s) where
+      past-front : CountsOk version1 (h .points) (h .limits) (h .links) (laidOut (length s) h)
+      past-front =
+          let d = rw front-parts at (is-accepted (fileFront s) p e u) in
+          rw q (head-counts (length s) (headOf s) (then-done (headAnswer (length s) (headOf s)) (to-limits s) d .0))
+
+      pub past-front-limits : h .limits ≤ version1 .limits
+      past-front-limits = past-front .limits
+
+      pub past-front-links : h .links ≤ version1 .links
+      past-front-links = past-front .links
+
       pub file-next : {b : Answer}
-          → b ≡ linksAnswer version1 (h .points) 0 [] (records (linkAt s (h .limits)) 0 (h .links))
+          → b ≡ linksAnswer version1 (h .points) (h .limits) 0 [] (records (linkAt s (h .limits)) 0 (h .links))
           → b ≡ fileAnswer s
       unfolding planOf
-      file-next r = rw (file-parts s, ← p, passed e u, ← q) r
+      file-next r = rw (file-parts s, ← p, passed e u, limits-length s, ← q) r
 
-      -- ---- Add's limit between them: y is what the test said of it
-      module _ (added : Limit) {y : Bool} (f : y ≡ limitFits version1 (h .points) added) where
-        pub add-own : not y ≡ true → BadLimit (limitPlace (h .limits)) ≡ addAnswer s added
+      -- ---- Add's limit between them: o is its answer, y whether that is no refusal
+      module _ (added : Limit) {o : Answer} (f : o ≡ limitAnswer version1 (h .points) (h .limits) added) {y : Bool} (g : y ≡ eqb (codeOf o) 0) where
+        pub add-own : not y ≡ true → o ≡ addAnswer s added
         unfolding addAnswer planOf
-        add-own v = rw (← p, passed e u, ← q, failed f v)
+        add-own v = rw (← p, passed e u, ← q, ← f, failed g v)
 
         pub add-next : not y ≡ false
             → {b : Answer}
-            → b ≡ linksAnswer version1 (h .points) 0 [] (records (linkAt s (h .limits)) 0 (h .links))
+            → b ≡ linksAnswer version1 (h .points) (h .limits) 0 [] (records (linkAt s (h .limits)) 0 (h .links))
             → b ≡ addAnswer s added
         unfolding addAnswer planOf
-        add-next v r = rw (← p, passed e u, ← q, passed f v) r
+        add-next v r = rw (← p, passed e u, limits-length s, ← q, ← f, passed g v) r

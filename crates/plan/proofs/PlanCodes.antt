@@ -9,7 +9,7 @@ use Rattle.rules.specs.Answers.{codeOf}
 use Rattle.rules.specs.declared.Answer.{Answer}
 use Rattle.rules.specs.declared.Answer.the-variants.{Done, BadPoints, BadCounts, BadLayout, BadLimit, BadLink, RepeatedLink}
 use Rattle.answers.specs.Order.{_then_, unless}
-use Rattle.plan.specs.File.{pointsFit, countsFit, countsAnswer, limitFits, linkFits, fresh, limitPlace, linkPlace}
+use Rattle.plan.specs.File.{pointsFit, countsFit, countsAnswer, limitFits, linkFits, fresh, limitPlace, linkPlace, repeatPlace}
 use Rattle.plan.specs.File.{limitAnswer, limitsAnswer, linkAnswer, linksAnswer, frontAnswer, backAnswer, planAnswer}
 
 pub record Refusals (P : Answer → Type 0) : Type 0 where
@@ -43,21 +43,28 @@ module _ (P : Answer → Type 0) (each : Refusals P) (r : Ranges) where
       (unless-holds P laid BadLayout (each .done) (each .layout)))
 
   pub limit-holds : (n i : ℕ) (m : Limit) → P (limitAnswer r n i m)
-  limit-holds n i m = unless-holds P (limitFits r n m) (BadLimit (limitPlace i)) (each .done) (each .limit (limitPlace i))
+  limit-holds n i m =
+      let at = limitPlace r n i m in
+      unless-holds P (limitFits r n m) (BadLimit at) (each .done) (each .limit at)
 
   limits-hold : (n i : ℕ) (ms : List Limit) → P (limitsAnswer r n i ms)
   limits-hold n i [] = each .done
   limits-hold n i (m ∷ ms) = then-holds P (limitAnswer r n i m) (limitsAnswer r n (suc i) ms) (limit-holds n i m) (limits-hold n (suc i) ms)
 
-  links-hold : (n i : ℕ) (before ks : List Link) → P (linksAnswer r n i before ks)
-  links-hold n i before [] = each .done
-  links-hold n i before (k ∷ ks) =
-      let seven = unless (linkFits r n k) (BadLink (linkPlace i)) in
-      let eight = unless (fresh (k .con) before) (RepeatedLink (linkPlace i)) in
-      then-holds P (linkAnswer r n i before k) (linksAnswer r n (suc i) (k ∷ before) ks)
-      (then-holds P seven eight (unless-holds P (linkFits r n k) (BadLink (linkPlace i)) (each .done) (each .link (linkPlace i)))
-      (unless-holds P (fresh (k .con) before) (RepeatedLink (linkPlace i)) (each .done) (each .repeated (linkPlace i))))
-      (links-hold n (suc i) (k ∷ before) ks)
+  link-holds : (n m i : ℕ) (new : Bool) (k : Link) → P (linkAnswer r n m i new k)
+  link-holds n m i new k =
+      let at = linkPlace r n m i k in
+      let again = repeatPlace m i in
+      then-holds P (unless (linkFits r n k) (BadLink at)) (unless new (RepeatedLink again))
+      (unless-holds P (linkFits r n k) (BadLink at) (each .done) (each .link at))
+      (unless-holds P new (RepeatedLink again) (each .done) (each .repeated again))
+
+  links-hold : (n m i : ℕ) (before ks : List Link) → P (linksAnswer r n m i before ks)
+  links-hold n m i before [] = each .done
+  links-hold n m i before (k ∷ ks) =
+      let new = fresh (k .con) before in
+      then-holds P (linkAnswer r n m i new k) (linksAnswer r n m (suc i) (k ∷ before) ks) (link-holds n m i new k)
+      (links-hold n m (suc i) (k ∷ before) ks)
 
   pub front-holds : (laid : Bool) (p : Plan) → P (frontAnswer r laid p)
   unfolding frontAnswer
@@ -68,7 +75,7 @@ module _ (P : Answer → Type 0) (each : Refusals P) (r : Ranges) where
       (limits-hold (p .points) 0 (p .limits))
 
   pub back-holds : (p : Plan) → P (backAnswer r p)
-  back-holds p = links-hold (p .points) 0 [] (p .links)
+  back-holds p = links-hold (p .points) (length (p .limits)) 0 [] (p .links)
 
   pub plan-holds : (laid : Bool) (p : Plan) → P (planAnswer r laid p)
   unfolding planAnswer

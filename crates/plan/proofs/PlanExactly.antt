@@ -37,7 +37,7 @@ plan-exactly r laid p = (there, back)
         let ends = then-done (counts then limits) (backAnswer r p) e in
         let front = then-done counts limits (ends .0) in
         let c = counts-ok r n m k laid (front .0) in
-        let links = links-ok r n 0 [] (p .links) (ends .1) in (
+        let links = links-ok r n m 0 [] (p .links) (ends .1) in (
           c .as-laid,
           record {
             some-point = c .some-point;
@@ -55,4 +55,4 @@ plan-exactly r laid p = (there, back)
         let c =
         ok-counts r n m k laid (record { some-point = g .some-point; points = g .points; limits = g .limits; links = g .links; as-laid = l }) in
         done-then (counts then limits) (backAnswer r p) (done-then counts limits c (ok-limits r n 0 (p .limits) (g .limit)))
-        (ok-links r n 0 [] (p .links) (record { each = g .link; apart = λ j h i n. absurd (List·Memᴰ·not-nil n); unshared = g .unshared }))
+        (ok-links r n m 0 [] (p .links) (record { each = g .link; apart = λ j h i n. absurd (List·Memᴰ·not-nil n); unshared = g .unshared }))

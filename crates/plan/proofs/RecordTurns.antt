@@ -7,11 +7,13 @@ use Prim.Native.Nat.{ℕ, suc, _+_, _-_, _≤_, _<_}
 use native.Mathlib.Numerals.{add-one}
 use native.Mathlib.Omega.{arith}
 use borrow.Author.Tests.{eq-eqb, ne-eqb}
+use lib.Dec.{eqb}
 use Rattle.rules.specs.Plan.{Limit, Link, Ranges}
+use Rattle.rules.specs.Answers.{codeOf}
 use Rattle.rules.specs.declared.Answer.{Answer}
-use Rattle.rules.specs.declared.Answer.the-variants.{Done, BadLimit, BadLink, RepeatedLink}
+use Rattle.rules.specs.declared.Answer.the-variants.{Done}
 use Rattle.plan.specs.Layout.{records, earlier}
-use Rattle.plan.specs.File.{limitFits, linkFits, fresh, limitPlace, linkPlace, limitsAnswer, linksAnswer}
+use Rattle.plan.specs.File.{fresh, limitAnswer, limitsAnswer, linkAnswer, linksAnswer}
 use Rattle.plan.proofs.TestsMade.{failed, passed}
 
 -- ---- the records that are left, and those passed
@@ -31,15 +33,15 @@ earlier-next f j h =
     let e : j ≡ suc (j - 1) = omega arith in
     ap (earlier f) e
 
--- ---- limits: a is the answer that is worked out, x is limit i as a call read it, and b what the test said of it
+-- ---- limits: a is the answer that is worked out, x is limit i as a call read it, b its answer, and t whether that is no refusal
 
 module _ (r : Ranges) (n : ℕ) (f : ℕ → Limit) (i m : ℕ) {a : Answer} (w : a ≡ limitsAnswer r n i (records f i (m - i))) where
-  module _ (h : i < m) {x : Limit} {b : Bool} (e : x ≡ f i) (t : b ≡ limitFits r n x) where
-    pub limits-next : not b ≡ false → a ≡ limitsAnswer r n (i + 1) (records f (i + 1) (m - (i + 1)))
-    limits-next u = w ∙ rw (records-next f i m h, ← e, passed t u, add-one)
+  module _ (h : i < m) {x : Limit} (e : x ≡ f i) {b : Answer} (q : b ≡ limitAnswer r n i x) {t : Bool} (s : t ≡ eqb (codeOf b) 0) where
+    pub limits-next : not t ≡ false → a ≡ limitsAnswer r n (i + 1) (records f (i + 1) (m - (i + 1)))
+    limits-next u = w ∙ rw (records-next f i m h, ← e, ← q, passed s u, add-one)
 
-    pub limits-stop : not b ≡ true → BadLimit (limitPlace i) ≡ a
-    limits-stop u = sym (w ∙ rw (records-next f i m h, ← e, failed t u))
+    pub limits-stop : not t ≡ true → b ≡ a
+    limits-stop u = sym (w ∙ rw (records-next f i m h, ← e, ← q, failed s u))
 
   pub limits-end : m ≤ i → Done ≡ a
   limits-end h = sym (w ∙ rw (records-end f i m h))
@@ -59,22 +61,19 @@ module _ (con : ℕ) (f : ℕ → Link) (j : ℕ) {a : Bool} (w : a ≡ fresh co
       let e : j ≡ 0 = omega arith in
       sym (w ∙ rw e)
 
--- ---- links: a is the answer, x is link i, b what the first test said of it and d what the second
+-- ---- links: a is the answer, x is link i, d whether its contingent point is new, b its answer, and t whether that is no refusal
 
-module _ (r : Ranges) (n : ℕ) (f : ℕ → Link) (i k : ℕ) {a : Answer} (z : a ≡ linksAnswer r n i (earlier f i) (records f i (k - i))) where
-  module _ (h : i < k) {x : Link} {b : Bool} (e : x ≡ f i) (t : b ≡ linkFits r n x) where
-    pub links-stop : not b ≡ true → BadLink (linkPlace i) ≡ a
-    links-stop u = sym (z ∙ rw (records-next f i k h, ← e, failed t u))
+module _ (r : Ranges) (n m : ℕ) (f : ℕ → Link) (i k : ℕ) {a : Answer} (z : a ≡ linksAnswer r n m i (earlier f i) (records f i (k - i))) where
+  module _ (h : i < k) {x : Link} (e : x ≡ f i) {d : Bool} (v : d ≡ fresh (x .con) (earlier f i))
+      {b : Answer} (q : b ≡ linkAnswer r n m i d x) {t : Bool} (s : t ≡ eqb (codeOf b) 0) where
+    pub links-next : not t ≡ false → a ≡ linksAnswer r n m (i + 1) (earlier f (i + 1)) (records f (i + 1) (k - (i + 1)))
+    links-next u =
+        z
+        ∙ rw (records-next f i k h, ← e, ← v, ← q, passed s u, add-one)
+        (ap (λ (y : Link). linksAnswer r n m (suc i) (y ∷ earlier f i) (records f (suc i) (k - suc i))) e)
 
-    module _ (u : not b ≡ false) {d : Bool} (v : d ≡ fresh (x .con) (earlier f i)) where
-      pub links-next : not d ≡ false → a ≡ linksAnswer r n (i + 1) (earlier f (i + 1)) (records f (i + 1) (k - (i + 1)))
-      links-next w =
-          z
-          ∙ rw (records-next f i k h, ← e, passed t u, passed v w, add-one)
-          (ap (λ (y : Link). linksAnswer r n (suc i) (y ∷ earlier f i) (records f (suc i) (k - suc i))) e)
-
-      pub links-repeat : not d ≡ true → RepeatedLink (linkPlace i) ≡ a
-      links-repeat w = sym (z ∙ rw (records-next f i k h, ← e, passed t u, failed v w))
+    pub links-stop : not t ≡ true → b ≡ a
+    links-stop u = sym (z ∙ rw (records-next f i k h, ← e, ← v, ← q, failed s u))
 
   pub links-end : k ≤ i → Done ≡ a
   links-end h = sym (z ∙ rw (records-end f i k h))

@@ -14,17 +14,17 @@ use borrow.Author.Tests.{leb-true, eqb-true, le-leb, eq-eqb}
 use Rattle.rules.specs.Plan.{Limit, Link, version1, LimitInRange, LinkInRange, InRange}
 use Rattle.rules.specs.Answers.{codeOf}
 use Rattle.rules.specs.declared.Answer.{Answer}
-use Rattle.rules.specs.declared.Answer.the-variants.{Done, FewBytes, BadVersion, BadLimit}
+use Rattle.rules.specs.declared.Answer.the-variants.{Done, FewBytes, BadVersion}
 use Rattle.plan.specs.declared.Header.{Header}
 use Rattle.plan.specs.Layout.{headOf, limitOffset, linkOffset, limitAt, linkAt, planOf}
 use Rattle.answers.specs.Order.{_then_, unless}
 use Rattle.answers.proofs.CodeZero.{code-zero, then-done, done-then, unless-done, done-unless}
-use Rattle.plan.specs.File.{laidOut, formAnswer, limitFits, limitPlace, backAnswer, planAnswer, fileFront, fileAnswer, addAnswer, PlanFile}
+use Rattle.plan.specs.File.{laidOut, formAnswer, limitAnswer, backAnswer, planAnswer, fileFront, fileAnswer, addAnswer, PlanFile}
 use Rattle.plan.proofs.TestsMade.{failed, passed, both, and}
 use Rattle.plan.proofs.FileParts.{file-parts}
 pub use Rattle.plan.proofs.FileParts.{limits-length, links-length, points-is}
 use Rattle.plan.proofs.Records.{Listed, record-in, in-records}
-use Rattle.plan.proofs.TestsDecide.{limit-ok, ok-limit}
+use Rattle.plan.proofs.TestsDecide.{limit-taken, take-limit}
 use Rattle.plan.proofs.PlanExactly.{plan-exactly}
 
 -- ---- the header
@@ -174,25 +174,22 @@ pub add-exactly : (s : List ℕ) (added : Limit)
 unfolding addAnswer
 add-exactly s added = (there, back)
   where
-    fits : Bool
-    fits = limitFits version1 (planOf s .points) added
-
-    refusal : Answer
-    refusal = BadLimit (limitPlace (headOf s .limits))
+    own : Answer
+    own = limitAnswer version1 (planOf s .points) (headOf s .limits) added
 
     there : addAnswer s added ≡ Done → (fileAnswer s ≡ Done) × LimitInRange version1 (planOf s .points) added
     there e =
-        let p = then-done (fileFront s) (unless fits refusal then backAnswer version1 (planOf s)) e in
-        let q = then-done (unless fits refusal) (backAnswer version1 (planOf s)) (p .1) in (
+        let p = then-done (fileFront s) (own then backAnswer version1 (planOf s)) e in
+        let q = then-done own (backAnswer version1 (planOf s)) (p .1) in (
           rw file-parts (done-then (fileFront s) (backAnswer version1 (planOf s)) (p .0) (q .1)),
-          limit-ok version1 (planOf s .points) added (unless-done fits refusal refl (q .0)),
+          limit-taken version1 (planOf s .points) (headOf s .limits) added (q .0),
         )
 
     back : (fileAnswer s ≡ Done) × LimitInRange version1 (planOf s .points) added → addAnswer s added ≡ Done
     back g =
         let p = then-done (fileFront s) (backAnswer version1 (planOf s)) (rw file-parts at (g .0)) in
-        let own = done-unless fits refusal (ok-limit version1 (planOf s .points) added (g .1)) in
-        done-then (fileFront s) (unless fits refusal then backAnswer version1 (planOf s)) (p .0) (done-then (unless fits refusal) (backAnswer version1 (planOf s)) own (p .1))
+        let taken = take-limit version1 (planOf s .points) (headOf s .limits) added (g .1) in
+        done-then (fileFront s) (own then backAnswer version1 (planOf s)) (p .0) (done-then own (backAnswer version1 (planOf s)) taken (p .1))
 
 -- ---- from what the calls ensure: a is what `sound` or `sound_with` answered, t what `accepted` said of it
 

@@ -14,7 +14,8 @@ use Rattle.rules.specs.declared.Answer.the-variants.{Done, BadPoints, BadCounts
 use Rattle.plan.proofs.TestsMade.{both, and}
 use Rattle.answers.specs.Order.{_then_, unless}
 use Rattle.answers.proofs.CodeZero.{then-done, done-then, unless-done, done-unless}
-use Rattle.plan.specs.File.{pointsFit, countsFit, countsAnswer, limitFits, linkFits, fresh, limitPlace, linkPlace, limitsAnswer, linkAnswer, linksAnswer}
+use Rattle.plan.specs.File.{pointsFit, countsFit, countsAnswer, weightFits, limitFits, linkFits, fresh, limitPlace, linkPlace, repeatPlace}
+use Rattle.plan.specs.File.{limitAnswer, limitsAnswer, linkAnswer, linksAnswer}
 
 -- ---- tests
 
@@ -74,42 +75,47 @@ ok-counts r n m k laid c =
 pub limit-ok : (r : Ranges) (n : ℕ) (m : Limit) → limitFits r n m ≡ true → LimitInRange r n m
 unfolding limitFits
 limit-ok r n m e =
-    let from = ltb (m .from) n in
     let to = ltb (m .to) n in
+    let weight = weightFits r (m .weight) in
     let least = leZ (negℤ (pos (r .weight))) (m .weight) in
     let most = leZ (m .weight) (pos (r .weight)) in
-    let p = both (from && to && least) most e in
-    let q = both (from && to) least (p .0) in
-    let s = both from to (q .0) in
+    let p = both (ltb (m .from) n) (to && (weight && true)) e in
+    let q = both to (weight && true) (p .1) in
+    let s = both least most (both weight true (q .1) .0) in
     record {
-      from = ltb-true (m .from) n (s .0);
-      to = ltb-true (m .to) n (s .1);
-      least = leZ-le (negℤ (pos (r .weight))) (m .weight) (q .1);
-      most = leZ-le (m .weight) (pos (r .weight)) (p .1);
+      from = ltb-true (m .from) n (p .0);
+      to = ltb-true (m .to) n (q .0);
+      least = leZ-le (negℤ (pos (r .weight))) (m .weight) (s .0);
+      most = leZ-le (m .weight) (pos (r .weight)) (s .1);
     }
 
 pub ok-limit : (r : Ranges) (n : ℕ) (m : Limit) → LimitInRange r n m → limitFits r n m ≡ true
 unfolding limitFits
 ok-limit r n m h =
-    let p = and (lt-ltb (m .from) n (h .from)) (lt-ltb (m .to) n (h .to)) in
-    let q = and p (le-leZ (negℤ (pos (r .weight))) (m .weight) (h .least)) in
-    and q (le-leZ (m .weight) (pos (r .weight)) (h .most))
+    let weight = and (le-leZ (negℤ (pos (r .weight))) (m .weight) (h .least)) (le-leZ (m .weight) (pos (r .weight)) (h .most)) in
+    and (lt-ltb (m .from) n (h .from)) (and (lt-ltb (m .to) n (h .to)) (and weight refl))
+
+-- the answer to one limit is Done exactly where it is in range
+pub limit-taken : (r : Ranges) (n i : ℕ) (m : Limit) → limitAnswer r n i m ≡ Done → LimitInRange r n m
+limit-taken r n i m e = limit-ok r n m (unless-done (limitFits r n m) (BadLimit (limitPlace r n i m)) refl e)
+
+pub take-limit : (r : Ranges) (n i : ℕ) (m : Limit) → LimitInRange r n m → limitAnswer r n i m ≡ Done
+take-limit r n i m h = done-unless (limitFits r n m) (BadLimit (limitPlace r n i m)) (ok-limit r n m h)
 
 -- the limits' answer is Done exactly where each is in range
 pub limits-ok : (r : Ranges) (n i : ℕ) (ms : List Limit) → limitsAnswer r n i ms ≡ Done → (m : Limit) → List·Memᴰ m ms → LimitInRange r n m
 limits-ok r n i [] e m h = absurd (List·Memᴰ·not-nil h)
 limits-ok r n i (x ∷ xs) e m h =
-    let p = then-done (unless (limitFits r n x) (BadLimit (limitPlace i))) (limitsAnswer r n (suc i) xs) e in
+    let p = then-done (limitAnswer r n i x) (limitsAnswer r n (suc i) xs) e in
     ⊎-elim
-    (λ (q : m ≡ x). rw q (limit-ok r n x (unless-done (limitFits r n x) (BadLimit (limitPlace i)) refl (p .0))))
+    (λ (q : m ≡ x). rw q (limit-taken r n i x (p .0)))
     (λ (t : List·Memᴰ m xs). limits-ok r n (suc i) xs (p .1) m t)
     (List·Memᴰ·cases-cons h)
 
 pub ok-limits : (r : Ranges) (n i : ℕ) (ms : List Limit) → ((m : Limit) → List·Memᴰ m ms → LimitInRange r n m) → limitsAnswer r n i ms ≡ Done
 ok-limits r n i [] h = refl
 ok-limits r n i (x ∷ xs) h =
-    done-then (unless (limitFits r n x) (BadLimit (limitPlace i))) (limitsAnswer r n (suc i) xs)
-    (done-unless (limitFits r n x) (BadLimit (limitPlace i)) (ok-limit r n x (h x (List·Memᴰ·head refl))))
+    done-then (limitAnswer r n i x) (limitsAnswer r n (suc i) xs) (take-limit r n i x (h x (List·Memᴰ·head refl)))
     (ok-limits r n (suc i) xs (λ m t. h m (List·Memᴰ·tail t)))
 
 -- ---- links
@@ -117,38 +123,50 @@ ok-limits r n i (x ∷ xs) h =
 pub ok-link : (r : Ranges) (n : ℕ) (k : Link) → LinkInRange r n k → linkFits r n k ≡ true
 unfolding linkFits
 ok-link r n k h =
-    let v = and (lt-ltb (k .act) n (h .act)) (lt-ltb (k .con) n (h .con)) in
-    let u = and v (are-different (k .act) (k .con) (h .differs)) in
-    let t = and u (are-different (k .con) 0 (h .not-start)) in
-    let s = and t (le-leb 1 (k .short) (h .least)) in
-    let q = and s (le-leb (k .short) (k .long) (h .order)) in
-    and q (le-leb (k .long) (r .weight) (h .most))
+    let below = and (lt-ltb (k .con) n (h .con)) (are-different (k .act) (k .con) (h .differs)) in
+    let con = and below (are-different (k .con) 0 (h .not-start)) in
+    let long = and (le-leb (k .short) (k .long) (h .order)) (le-leb (k .long) (r .weight) (h .most)) in
+    and (lt-ltb (k .act) n (h .act)) (and con (and (le-leb 1 (k .short) (h .least)) (and long refl)))
 
 pub link-ok : (r : Ranges) (n : ℕ) (k : Link) → linkFits r n k ≡ true → LinkInRange r n k
 unfolding linkFits
 link-ok r n k e =
-    let act = ltb (k .act) n in
-    let con = ltb (k .con) n in
+    let below = ltb (k .con) n in
     let differs = not (eqb (k .act) (k .con)) in
     let not-start = not (eqb (k .con) 0) in
-    let least = leb 1 (k .short) in
+    let con = below && differs && not-start in
+    let short = leb 1 (k .short) in
     let order = leb (k .short) (k .long) in
     let most = leb (k .long) (r .weight) in
-    let p = both (act && con && differs && not-start && least && order) most e in
-    let q = both (act && con && differs && not-start && least) order (p .0) in
-    let s = both (act && con && differs && not-start) least (q .0) in
-    let t = both (act && con && differs) not-start (s .0) in
-    let u = both (act && con) differs (t .0) in
-    let v = both act con (u .0) in
+    let p = both (ltb (k .act) n) (con && (short && (order && most && true))) e in
+    let q = both con (short && (order && most && true)) (p .1) in
+    let s = both short (order && most && true) (q .1) in
+    let t = both order most (both (order && most) true (s .1) .0) in
+    let u = both (below && differs) not-start (q .0) in
+    let v = both below differs (u .0) in
     record {
-      act = ltb-true (k .act) n (v .0);
-      con = ltb-true (k .con) n (v .1);
-      differs = differ (k .act) (k .con) (u .1);
-      not-start = differ (k .con) 0 (t .1);
-      least = leb-true 1 (k .short) (s .1);
-      order = leb-true (k .short) (k .long) (q .1);
-      most = leb-true (k .long) (r .weight) (p .1);
+      act = ltb-true (k .act) n (p .0);
+      con = ltb-true (k .con) n (v .0);
+      differs = differ (k .act) (k .con) (v .1);
+      not-start = differ (k .con) 0 (u .1);
+      least = leb-true 1 (k .short) (s .0);
+      order = leb-true (k .short) (k .long) (t .0);
+      most = leb-true (k .long) (r .weight) (t .1);
     }
+
+-- the answer to one link is Done exactly where it is in range and its contingent point is new
+pub link-taken : (r : Ranges) (n m i : ℕ) (new : Bool) (k : Link) → linkAnswer r n m i new k ≡ Done → LinkInRange r n k × (new ≡ true)
+link-taken r n m i new k e =
+    let seven = BadLink (linkPlace r n m i k) in
+    let eight = RepeatedLink (repeatPlace m i) in
+    let p = then-done (unless (linkFits r n k) seven) (unless new eight) e in
+    (link-ok r n k (unless-done (linkFits r n k) seven refl (p .0)), unless-done new eight refl (p .1))
+
+pub take-link : (r : Ranges) (n m i : ℕ) (new : Bool) (k : Link) → LinkInRange r n k → new ≡ true → linkAnswer r n m i new k ≡ Done
+take-link r n m i new k h e =
+    let seven = BadLink (linkPlace r n m i k) in
+    let eight = RepeatedLink (repeatPlace m i) in
+    done-then (unless (linkFits r n k) seven) (unless new eight) (done-unless (linkFits r n k) seven (ok-link r n k h)) (done-unless new eight e)
 
 -- a point is fresh exactly where it is no link's contingent point
 pub fresh-ok : (c : ℕ) (ks : List Link) → fresh c ks ≡ true → (k : Link) → List·Memᴰ k ks → k .con ≢ c
@@ -171,23 +189,22 @@ pub record LinksOk (r : Ranges) (n : ℕ) (earlier ks : List Link) : Type 0 wher
   pub apart : (k : Link) → List·Memᴰ k ks → (j : Link) → List·Memᴰ j earlier → j .con ≢ k .con
   pub unshared : Unshared ks
 
-pub links-ok : (r : Ranges) (n i : ℕ) (earlier ks : List Link) → linksAnswer r n i earlier ks ≡ Done → LinksOk r n earlier ks
-links-ok r n i earlier [] e =
+pub links-ok : (r : Ranges) (n m i : ℕ) (earlier ks : List Link) → linksAnswer r n m i earlier ks ≡ Done → LinksOk r n earlier ks
+links-ok r n m i earlier [] e =
     record {
       each = λ k h. absurd (List·Memᴰ·not-nil h);
       apart = λ k h j g. absurd (List·Memᴰ·not-nil h);
       unshared = tt;
     }
-links-ok r n i earlier (x ∷ xs) e =
-    let p = then-done (linkAnswer r n i earlier x) (linksAnswer r n (suc i) (x ∷ earlier) xs) e in
-    let q = then-done (unless (linkFits r n x) (BadLink (linkPlace i))) (unless (fresh (x .con) earlier) (RepeatedLink (linkPlace i))) (p .0) in
-    let in-range = link-ok r n x (unless-done (linkFits r n x) (BadLink (linkPlace i)) refl (q .0)) in
-    let new = fresh-ok (x .con) earlier (unless-done (fresh (x .con) earlier) (RepeatedLink (linkPlace i)) refl (q .1)) in
-    let rest = links-ok r n (suc i) (x ∷ earlier) xs (p .1) in
+links-ok r n m i earlier (x ∷ xs) e =
+    let p = then-done (linkAnswer r n m i (fresh (x .con) earlier) x) (linksAnswer r n m (suc i) (x ∷ earlier) xs) e in
+    let q = link-taken r n m i (fresh (x .con) earlier) x (p .0) in
+    let new = fresh-ok (x .con) earlier (q .1) in
+    let rest = links-ok r n m (suc i) (x ∷ earlier) xs (p .1) in
     record {
       each =
           λ k h. ⊎-elim
-          (λ (g : k ≡ x). rw g in-range)
+          (λ (g : k ≡ x). rw g (q .0))
           (λ (t : List·Memᴰ k xs). rest .each k t)
           (List·Memᴰ·cases-cons h);
       apart =
@@ -198,14 +215,13 @@ links-ok r n i earlier (x ∷ xs) e =
       unshared = (λ j t s. rest .apart j t x (List·Memᴰ·head refl) (sym s), rest .unshared);
     }
 
-pub ok-links : (r : Ranges) (n i : ℕ) (earlier ks : List Link) → LinksOk r n earlier ks → linksAnswer r n i earlier ks ≡ Done
-ok-links r n i earlier [] h = refl
-ok-links r n i earlier (x ∷ xs) h =
-    let in-range = done-unless (linkFits r n x) (BadLink (linkPlace i)) (ok-link r n x (h .each x (List·Memᴰ·head refl))) in
-    let new = done-unless (fresh (x .con) earlier) (RepeatedLink (linkPlace i)) (ok-fresh (x .con) earlier (h .apart x (List·Memᴰ·head refl))) in
-    done-then (linkAnswer r n i earlier x) (linksAnswer r n (suc i) (x ∷ earlier) xs)
-    (done-then (unless (linkFits r n x) (BadLink (linkPlace i))) (unless (fresh (x .con) earlier) (RepeatedLink (linkPlace i))) in-range new)
-    (ok-links r n (suc i) (x ∷ earlier) xs (rest h))
+pub ok-links : (r : Ranges) (n m i : ℕ) (earlier ks : List Link) → LinksOk r n earlier ks → linksAnswer r n m i earlier ks ≡ Done
+ok-links r n m i earlier [] h = refl
+ok-links r n m i earlier (x ∷ xs) h =
+    let new = ok-fresh (x .con) earlier (h .apart x (List·Memᴰ·head refl)) in
+    done-then (linkAnswer r n m i (fresh (x .con) earlier) x) (linksAnswer r n m (suc i) (x ∷ earlier) xs)
+    (take-link r n m i (fresh (x .con) earlier) x (h .each x (List·Memᴰ·head refl)) new)
+    (ok-links r n m (suc i) (x ∷ earlier) xs (rest h))
   where
     rest : LinksOk r n earlier (x ∷ xs) → LinksOk r n (x ∷ earlier) xs
     rest g =

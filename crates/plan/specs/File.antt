@@ -1,12 +1,12 @@
 -- Document 01, "Numbers returned", codes 1 to 8: what the reader answers to any bytes, and what a plan file is.
 -- Assumes nothing.
 use mathlib.Core.Path.{_≡_}
-use mathlib.Core.Bool.{Bool, true, not, _&&_}
+use mathlib.Core.Bool.{Bool, true, not, _&&_, cond}
 use mathlib.Core.List.{List, [], _∷_}
-use Prim.Native.Nat.{ℕ, suc, _≤_}
+use Prim.Native.Nat.{ℕ, suc, _+_, _≤_}
 use lib.Dec.{leb, ltb, eqb}
 use lib.ListN.{length}
-use lib.IntN.{pos, negℤ}
+use lib.IntN.{ℤ, pos, negℤ}
 use lib.Signed.{leZ}
 use Rattle.rules.specs.Plan.{Limit, Link, Plan, Ranges, version1, InRange}
 use Rattle.rules.specs.declared.Answer.{Answer}
@@ -37,53 +37,77 @@ unfoldable pub countsAnswer : Ranges → ℕ → ℕ → ℕ → Bool → Answer
 countsAnswer r n m k laid =
     unless (pointsFit r n) BadPoints then unless (countsFit r m k) BadCounts then unless laid BadLayout
 
--- "every point named is below n", "w from -1,000,000 to 1,000,000"
-unfoldable pub limitFits : Ranges → ℕ → Limit → Bool
-limitFits r n m =
-    ltb (m .from) n && ltb (m .to) n && leZ (negℤ (pos (r .weight))) (m .weight) && leZ (m .weight) (pos (r .weight))
+-- "w from -1,000,000 to 1,000,000"
+abbrev pub weightFits : Ranges → ℤ → Bool
+weightFits r w = leZ (negℤ (pos (r .weight))) w && leZ w (pos (r .weight))
 
--- "every point named is below n", "A differs from C, C is not 0", "u <= 1,000,000"; document 02, item 2: "From now on 1 <= l <= u."
-unfoldable pub linkFits : Ranges → ℕ → Link → Bool
-linkFits r n k =
+-- Whether each field of a limit is right, in the record's order: "every point named is below n", and the weight.
+abbrev pub limitTests : Ranges → ℕ → Limit → List Bool
+limitTests r n m = ltb (m .from) n ∷ ltb (m .to) n ∷ weightFits r (m .weight) ∷ []
+
+-- The same of a link: "every point named is below n", "A differs from C, C is not 0", "u <= 1,000,000"; document 02, item 2: "From now on 1 <= l <= u."
+-- Item 5: "A equal to C is blamed on C, a wrong order of l and u on u, and l only when it is 0".
+abbrev pub linkTests : Ranges → ℕ → Link → List Bool
+linkTests r n k =
     ltb (k .act) n
-    && ltb (k .con) n
-    && not (eqb (k .act) (k .con))
-    && not (eqb (k .con) 0)
-    && leb 1 (k .short)
-    && leb (k .short) (k .long)
-    && leb (k .long) (r .weight)
+    ∷ (ltb (k .con) n && not (eqb (k .act) (k .con)) && not (eqb (k .con) 0))
+    ∷ leb 1 (k .short)
+    ∷ (leb (k .short) (k .long) && leb (k .long) (r .weight))
+    ∷ []
+
+-- whether every field is right
+abbrev pub allRight : List Bool → Bool
+allRight [] = true
+allRight (t ∷ ts) = t && allRight ts
+
+-- "the first bad one": how far into its record it begins, past the four bytes of each field before it
+abbrev pub firstBad : List Bool → ℕ
+firstBad [] = 0
+firstBad (t ∷ ts) = cond t (4 + firstBad ts) 0
+
+-- a limit in range
+unfoldable pub limitFits : Ranges → ℕ → Limit → Bool
+limitFits r n m = allRight (limitTests r n m)
+
+-- a link in range
+unfoldable pub linkFits : Ranges → ℕ → Link → Bool
+linkFits r n k = allRight (linkTests r n k)
 
 -- whether a point is the contingent point of none of these links
 abbrev pub fresh : ℕ → List Link → Bool
 fresh c [] = true
 fresh c (k ∷ ks) = not (eqb (k .con) c) && fresh c ks
 
--- "a limit out of range; place: index of the first"
-abbrev pub limitPlace : ℕ → ℕ
-limitPlace i = i
+-- Document 02, item 5: "the offset in the file of the field at fault": of the limit at index i, "the first bad one of from, to, weight"
+abbrev pub limitPlace : Ranges → ℕ → ℕ → Limit → ℕ
+limitPlace r n i m = limitOffset i + firstBad (limitTests r n m)
 
--- "a link out of range; place: index", "a link repeats an earlier contingent point; place: the later index"
-abbrev pub linkPlace : ℕ → ℕ
-linkPlace i = i
+-- of the link at index i after m limits, the first bad one "of A, C, l, u"
+abbrev pub linkPlace : Ranges → ℕ → ℕ → ℕ → Link → ℕ
+linkPlace r n m i k = linkOffset m i + firstBad (linkTests r n k)
+
+-- "for code 8 the C field"
+abbrev pub repeatPlace : ℕ → ℕ → ℕ
+repeatPlace m i = linkOffset m i + 4
 
 -- the answer to one limit, at index i
 abbrev pub limitAnswer : Ranges → ℕ → ℕ → Limit → Answer
-limitAnswer r n i m = unless (limitFits r n m) (BadLimit (limitPlace i))
+limitAnswer r n i m = unless (limitFits r n m) (BadLimit (limitPlace r n i m))
 
 -- "limits in file order": the answer to limits from index i on
 abbrev pub limitsAnswer : Ranges → ℕ → ℕ → List Limit → Answer
 limitsAnswer r n i [] = Done
 limitsAnswer r n i (m ∷ ms) = limitAnswer r n i m then limitsAnswer r n (suc i) ms
 
--- the answer to one link, at index i: "tested for 7 and then 8"
-abbrev pub linkAnswer : Ranges → ℕ → ℕ → List Link → Link → Answer
-linkAnswer r n i earlier k =
-    unless (linkFits r n k) (BadLink (linkPlace i)) then unless (fresh (k .con) earlier) (RepeatedLink (linkPlace i))
+-- the answer to one link, at index i after m limits: "tested for 7 and then 8"; `new` says whether no earlier link has its contingent point
+abbrev pub linkAnswer : Ranges → ℕ → ℕ → ℕ → Bool → Link → Answer
+linkAnswer r n m i new k = unless (linkFits r n k) (BadLink (linkPlace r n m i k)) then unless new (RepeatedLink (repeatPlace m i))
 
--- "links in file order": the answer to links from index i on, after the earlier ones
-abbrev pub linksAnswer : Ranges → ℕ → ℕ → List Link → List Link → Answer
-linksAnswer r n i earlier [] = Done
-linksAnswer r n i earlier (k ∷ ks) = linkAnswer r n i earlier k then linksAnswer r n (suc i) (k ∷ earlier) ks
+-- "links in file order": the answer to links from index i on, after m limits and the earlier links
+abbrev pub linksAnswer : Ranges → ℕ → ℕ → ℕ → List Link → List Link → Answer
+linksAnswer r n m i earlier [] = Done
+linksAnswer r n m i earlier (k ∷ ks) =
+    linkAnswer r n m i (fresh (k .con) earlier) k then linksAnswer r n m (suc i) (k ∷ earlier) ks
 
 -- codes 3 to 6 of a plan: ".. 5; limits in file order"
 unfoldable pub frontAnswer : Ranges → Bool → Plan → Answer
@@ -92,7 +116,7 @@ frontAnswer r laid p =
 
 -- codes 7 and 8 of a plan: "links in file order, each tested for 7 and then 8"
 abbrev pub backAnswer : Ranges → Plan → Answer
-backAnswer r p = linksAnswer r (p .points) 0 [] (p .links)
+backAnswer r p = linksAnswer r (p .points) (length (p .limits)) 0 [] (p .links)
 
 -- codes 3 to 8 of a plan, whether a file holds it or lists do
 unfoldable pub planAnswer : Ranges → Bool → Plan → Answer
@@ -106,7 +130,8 @@ fileFront s = formAnswer (length s) (headOf s) then frontAnswer version1 (laidOu
 unfoldable pub fileAnswer : List ℕ → Answer
 fileAnswer s = formAnswer (length s) (headOf s) then planAnswer version1 (laidOut (length s) (headOf s)) (planOf s)
 
--- codes 1 to 8 of Add: "limits in file order, then Add's limit; links in file order"; "for the limit handed to Add: m"
+-- codes 1 to 8 of Add: "limits in file order, then Add's limit; links in file order"; document 02, item 5: "A bad limit handed to Add reports offset
+-- 24 + 12m plus the field's offset in a record."
 unfoldable pub addAnswer : List ℕ → Limit → Answer
 addAnswer s added =
     fileFront s

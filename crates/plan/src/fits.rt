@@ -1,11 +1,8 @@
 // The ranges and the layout, as tests.
 ghost use mathlib.Core.Path.{_≡_};
 ghost use Rattle.rules.specs.Plan.{version1};
-ghost use Rattle.plan.specs.Values.{limitOf, linkOf};
-ghost use Rattle.plan.specs.File.{pointsFit, countsFit, laidOut, limitFits, linkFits};
+ghost use Rattle.plan.specs.File.{pointsFit, countsFit, laidOut, weightFits};
 use crate::Header;
-use crate::Limit;
-use crate::Link;
 
 // Whether a number of points is in range.
 pub fn points_fit(n: u32) -> bool
@@ -21,19 +18,11 @@ pub fn counts_fit(m: usize, k: usize) -> bool
     (m <= 1_024) & (k <= 32)
 }
 
-// Whether a limit is in range, of a plan of n points.
-pub fn limit_fits(n: u32, limit: Limit) -> bool
-    ensures { λ r. ⌜ r ≡ limitFits version1 n (limitOf limit) ⌝ }
+// Whether a weight is in range.
+pub fn weight_fits(w: i32) -> bool
+    ensures { λ r. ⌜ r ≡ weightFits version1 w ⌝ }
 {
-    (limit.from < n) & (limit.to < n) & (-1_000_000 <= limit.weight) & (limit.weight <= 1_000_000)
-}
-
-// Whether a link is in range, of a plan of n points.
-pub fn link_fits(n: u32, link: Link) -> bool
-    ensures { λ r. ⌜ r ≡ linkFits version1 n (linkOf link) ⌝ }
-{
-    let points = (link.act < n) & (link.con < n) & (link.act != link.con) & (link.con != 0);
-    points & (1 <= link.short) & (link.short <= link.long) & (link.long <= 1_000_000)
+    (-1_000_000 <= w) & (w <= 1_000_000)
 }
 
 // Whether the records and the file's end are where they belong. At this width no count can make a sum wrap.

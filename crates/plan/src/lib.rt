@@ -1,11 +1,12 @@
 // The plan file: from lent bytes to the paper's plan, with nothing copied. Every call here is total: it takes any bytes.
 // What each answers is said by the definitions of specs/, which follow the paper.
+mod faults;
 mod fits;
 mod record;
 mod scan;
 
-pub use fits::limit_fits;
-pub use fits::link_fits;
+pub use faults::limit_answer;
+pub use faults::link_answer;
 pub use record::head;
 pub use record::limit_at;
 pub use record::link_at;
@@ -114,8 +115,9 @@ pub fn sound_with(file: &[u8], x: u32, y: u32, w: i32) -> Answer
         to: y,
         weight: w,
     };
-    if !limit_fits(h.points, added) {
-        return Answer::BadLimit(h.limits);
+    let own = limit_answer(h.points, h.limits, added);
+    if !accepted(own) {
+        return own;
     }
     links(file, h.points, h.limits, h.links)
 }

@@ -54,7 +54,7 @@ module _ (l : Lists) where
   links : List Link
   links = records (linkIn (l .act) (l .con) (l .short) (l .long)) 0 k
 
-  parts : listsAnswer l ≡ ((counts then limitsAnswer version1 n 0 limits) then linksAnswer version1 n 0 [] links)
+  parts : listsAnswer l ≡ ((counts then limitsAnswer version1 n 0 limits) then linksAnswer version1 n m 0 [] links)
   unfolding planAnswer frontAnswer listedPlan n m k counts limits links
   parts = rw (records-length (limitIn (l .from) (l .to) (l .weight)) 0 m, records-length (linkIn (l .act) (l .con) (l .short) (l .long)) 0 k)
 
@@ -82,7 +82,7 @@ module _ (l : Lists) where
 
   accepted-ok : listsAnswer l ≡ Done → ListsOk l
   accepted-ok e =
-      let p = then-done (counts then limitsAnswer version1 n 0 limits) (linksAnswer version1 n 0 [] links) (rw parts at e) in
+      let p = then-done (counts then limitsAnswer version1 n 0 limits) (linksAnswer version1 n m 0 [] links) (rw parts at e) in
       ok (then-done counts (limitsAnswer version1 n 0 limits) (p .0) .0)
 
   module _ {laid : Bool} (g : laid ≡ evenLists l) {a : Answer} (p : a ≡ countsAnswer version1 (l .points) (length (l .from)) (length (l .act)) laid)
@@ -105,7 +105,7 @@ module _ (l : Lists) where
         limits-refused w = rw (parts, ← counted, passed e u, ← q, failed f w)
 
         pub links-answer : not v ≡ false → {c : Answer}
-            → c ≡ linksAnswer version1 (l .points) 0 [] (records (linkIn (l .act) (l .con) (l .short) (l .long)) 0 (length (l .act)))
+            → c ≡ linksAnswer version1 (l .points) (length (l .from)) 0 [] (records (linkIn (l .act) (l .con) (l .short) (l .long)) 0 (length (l .act)))
             → c ≡ listsAnswer l
         unfolding limits links n m k
         links-answer w r = rw (parts, ← counted, passed e u, ← q, passed f w) r

@@ -62,7 +62,7 @@ fn lists_answer(
     if !accepted(b) {
         return b;
     }
-    links(n, k as u32, act, con, short, long)
+    links(n, m as u32, k as u32, act, con, short, long)
 }
 
 // The file at the start of a buffer that has room for it.

@@ -8,10 +8,11 @@ ghost use Rattle.plan.specs.Layout.{records, earlier};
 ghost use Rattle.plan.specs.Values.{limitOf, linkOf};
 ghost use Rattle.plan.specs.File.{fresh as File·fresh, limitsAnswer, linksAnswer};
 ghost use Rattle.writing.specs.PlanLists.{limitIn, linkIn};
+use answers::accepted;
 use plan::Limit;
 use plan::Link;
-use plan::limit_fits;
-use plan::link_fits;
+use plan::limit_answer;
+use plan::link_answer;
 use rules::Answer;
 
 // The limit at an index of three lists.
@@ -43,14 +44,14 @@ pub fn link_in(act: &[u32], con: &[u32], short: &[u32], long: &[u32], i: u32) ->
 
 // The answer to the first m limits, of a plan of n points.
 pub fn limits(n: u32, m: u32, from: &[u32], to: &[u32], weight: &[i32]) -> Answer
-    requires { ⌜ (m ≤ length (now from)) × (m ≤ length (now to)) × (m ≤ length (now weight)) ⌝ }
+    requires { ⌜ (m ≤ version1 .limits) × (m ≤ length (now from)) × (m ≤ length (now to)) × (m ≤ length (now weight)) ⌝ }
     ensures { λ r. ⌜ r ≡ limitsAnswer version1 n 0 (records (limitIn (now (from .entry)) (now (to .entry)) (now (weight .entry))) 0 m) ⌝ }
 {
     let mut i = 0;
     while i < m {
-        let limit = limit_in(from, to, weight, i);
-        if !limit_fits(n, limit) {
-            return Answer::BadLimit(i);
+        let a = limit_answer(n, i, limit_in(from, to, weight, i));
+        if !accepted(a) {
+            return a;
         }
         i += 1;
     }
@@ -73,19 +74,18 @@ fn fresh(act: &[u32], con: &[u32], short: &[u32], long: &[u32], i: u32, point: u
     true
 }
 
-// The answer to the first k links, of a plan of n points.
-pub fn links(n: u32, k: u32, act: &[u32], con: &[u32], short: &[u32], long: &[u32]) -> Answer
-    requires { ⌜ (k ≤ length (now act)) × (k ≤ length (now con)) × (k ≤ length (now short)) × (k ≤ length (now long)) ⌝ }
-    ensures { λ r. ⌜ r ≡ linksAnswer version1 n 0 [] (records (linkIn (now (act .entry)) (now (con .entry)) (now (short .entry)) (now (long .entry))) 0 k) ⌝ }
+// The answer to the first k links, after m limits, of a plan of n points.
+pub fn links(n: u32, m: u32, k: u32, act: &[u32], con: &[u32], short: &[u32], long: &[u32]) -> Answer
+    requires { ⌜ (m ≤ version1 .limits) × (k ≤ version1 .links) × (k ≤ length (now act)) × (k ≤ length (now con)) × (k ≤ length (now short)) × (k ≤ length (now long)) ⌝ }
+    ensures { λ r. ⌜ r ≡ linksAnswer version1 n m 0 [] (records (linkIn (now (act .entry)) (now (con .entry)) (now (short .entry)) (now (long .entry))) 0 k) ⌝ }
 {
     let mut i = 0;
     while i < k {
         let link = link_in(act, con, short, long, i);
-        if !link_fits(n, link) {
-            return Answer::BadLink(i);
-        }
-        if !fresh(act, con, short, long, i, link.con) {
-            return Answer::RepeatedLink(i);
+        let new = fresh(act, con, short, long, i, link.con);
+        let a = link_answer(n, m, i, link, new);
+        if !accepted(a) {
+            return a;
         }
         i += 1;
     }

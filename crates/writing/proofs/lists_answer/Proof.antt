@@ -46,5 +46,6 @@ lists-answer-spec =
     (λ c κs. search needs)
     returns-2
     (λ c. let o = known (c .before .before .before) in omega arith)
+    (λ c. let o = known (c .before .before .before) in omega arith)
     (λ c κs. let o = known (c .before .before .before) in omega arith)
     returns-3)

@@ -3,25 +3,23 @@
 use Rattle.writing.proofs.Common.{_≡_, _-_, _≤_, sub-zero, arith, needs, version1, linkIn, records, earlier}
 use mathlib.Core.List.{[]}
 use Rattle.plan.specs.File.{linksAnswer}
-use Rattle.plan.proofs.RecordTurns.{links-next, links-stop, links-repeat, links-end}
+use Rattle.plan.proofs.RecordTurns.{links-next, links-stop, links-end}
 use Rattle.writing.proofs.listed.links.Statement.{statement}
 use Rattle.writing.proofs.listed.links.Tie as tie
 
 abbrev Inv-loop : tie.InvT-loop
-Inv-loop n k act con short long i₀ i =
+Inv-loop n m k act con short long i₀ i =
     (i ≤ k)
-    × (linksAnswer version1 n 0 [] (records (linkIn act con short long) 0 k)
-    ≡ linksAnswer version1 n i (earlier (linkIn act con short long) i) (records (linkIn act con short long) i (k - i)))
+    × (linksAnswer version1 n m 0 [] (records (linkIn act con short long) 0 k)
+    ≡ linksAnswer version1 n m i (earlier (linkIn act con short long) i) (records (linkIn act con short long) i (k - i)))
 
 pub links-spec : {M : Type 1} → statement M
 links-spec =
     tie.close
-    (tie.spec Inv-loop (λ n k act con short long i₀ i. k - i)
+    (tie.spec Inv-loop (λ n m k act con short long i₀ i. k - i)
     (λ c. (omega arith, rw sub-zero))
-    (λ c κs. search needs) (λ c κs. search needs)
+    (λ c κs. search needs) (λ c κs. search needs) (λ c κs. (omega arith, omega arith)) (λ c κs. search needs)
     (λ c. search (links-stop, arith))
-    (λ c κs. search needs)
-    (λ c. search (links-repeat, arith))
     (λ c. omega arith) (λ c. omega arith)
     (λ c. (omega arith, search (links-next, arith)))
     (λ c. search (links-end, arith)))
