@@ -15,13 +15,16 @@ pub fn limit_answer(n: u32, i: u32, limit: Limit) -> Answer
     ensures { λ r. ⌜ r ≡ limitAnswer version1 n i (limitOf limit) ⌝ }
 {
     let at = 24 + 12 * i;
-    if n <= limit.from {
+    let from = limit.from < n;
+    let to = limit.to < n;
+    let weight = weight_fits(limit.weight);
+    if !from {
         return Answer::BadLimit(at);
     }
-    if n <= limit.to {
+    if !to {
         return Answer::BadLimit(at + 4);
     }
-    if !weight_fits(limit.weight) {
+    if !weight {
         return Answer::BadLimit(at + 8);
     }
     Answer::Done
@@ -33,15 +36,17 @@ pub fn link_answer(n: u32, m: u32, i: u32, link: Link, new: bool) -> Answer
     ensures { λ r. ⌜ r ≡ linkAnswer version1 n m i new (linkOf link) ⌝ }
 {
     let at = 24 + 12 * m + 16 * i;
+    let act = link.act < n;
     let con = (link.con < n) & (link.act != link.con) & (link.con != 0);
+    let short = 1 <= link.short;
     let long = (link.short <= link.long) & (link.long <= 1_000_000);
-    if n <= link.act {
+    if !act {
         return Answer::BadLink(at);
     }
     if !con {
         return Answer::BadLink(at + 4);
     }
-    if link.short < 1 {
+    if !short {
         return Answer::BadLink(at + 8);
     }
     if !long {
