@@ -1,4 +1,4 @@
-# Sourced by judge and night: what starts a proved program, and the sentences that both say. Works on x86-64 and, under the toolchain's emulator, on Arm.
+# Sourced by judge and night: what starts a proved program, the copy of a plan file that it reads, and the sentences that both say. Works on x86-64 and, under the toolchain's emulator, on Arm.
 # Whoever sources it has set `here`, where the repository lies, and `name`, the command that speaks.
 
 say() { printf '%s: %s\n' "$name" "$*" >&2; }
