@@ -16,7 +16,7 @@ damaged_files.py. What the papers print is compared with what is found here.
 import os
 import struct
 
-from damaged_files import of_add, of_file
+from damaged_files import limit_field, link_field, of_add, of_file
 from tried_tables import E_LINK, MARK, PLANS, REACH, answer, cells, file_of, printed, tables
 
 ROOM, SCRATCH = 4096, 8192
@@ -27,13 +27,13 @@ TIMES = {"b": [0, 0], "d": [0, 4, 7]}
 MORE = [
     ("a plan whose strict cells alone would fall for ever", 4, [(2, 3, -3)], [(3, 1, 7, 2), (0, 2, 7, 1)], (11, 0)),
     ("l: n 65", 65, [], [], (3, 0)),
-    ("l: w 1,000,001, the second limit", 2, [(0, 1, 10), (0, 1, 1_000_001)], [], (6, 1)),
+    ("l: w 1,000,001, the second limit", 2, [(0, 1, 10), (0, 1, 1_000_001)], [], (6, limit_field(1, "w"))),
     ("l: w 1,000,000", 2, [(0, 1, 1_000_000)], [], (0, 0)),
-    ("l: l = 0, the second link", 3, [], [(0, 2, 5, 1), (0, 0, 5, 2)], (7, 1)),
+    ("l: l = 0, the second link", 3, [], [(0, 2, 5, 1), (0, 0, 5, 2)], (7, link_field(0, 1, "l"))),
     ("l: u 1,000,000", 2, [], [(0, 2, 1_000_000, 1)], (0, 0)),
-    ("02: l above u, the second link", 3, [], [(0, 40, 40, 1), (0, 41, 40, 2)], (7, 1)),
-    ("02: l = u = 1,000,001", 2, [], [(0, 1_000_001, 1_000_001, 1)], (7, 0)),
-    ("02: l = u = 0", 2, [], [(0, 0, 0, 1)], (7, 0)),
+    ("02: l above u, the second link", 3, [], [(0, 40, 40, 1), (0, 41, 40, 2)], (7, link_field(0, 1, "u"))),
+    ("02: l = u = 1,000,001", 2, [], [(0, 1_000_001, 1_000_001, 1)], (7, link_field(0, 0, "u"))),
+    ("02: l = u = 0", 2, [], [(0, 0, 0, 1)], (7, link_field(0, 0, "l"))),
 ]
 # limits added one after the other to the tables that Judge leaves: name, points, limits, links, what is added with Add's code and place, and
 # the case whose tables they end in
@@ -42,7 +42,7 @@ ADDED = [
     ("f", 2, [], E_LINK, [((0, 1, 5), (0, 0)), ((0, 1, 4), (11, 0)), ((1, 0, -3), (11, 0))], "e"),
     ("d, limit by limit", 3, [], [], [((0, 2, 12), (0, 0)), ((2, 1, -3), (0, 0)), ((1, 2, 6), (0, 0)), ((1, 0, -4), (0, 0))], "d"),
     ("h, its second limit added, then that of i, then one that names a point too many", 3, [(1, 2, -1)], E_LINK,
-     [((2, 1, 4), (0, 0)), ((2, 1, 3), (11, 0)), ((3, 1, 0), (6, 1))], "h"),
+     [((2, 1, 4), (0, 0)), ((2, 1, 3), (11, 0)), ((3, 1, 0), (6, limit_field(1, "X")))], "h"),
     # document 02, item 2: 40 seconds are what it takes, no more and no less
     ("02: (0,40,40,1), limits added", 2, [], [(0, 40, 40, 1)],
      [((0, 1, 40), (0, 0)), ((1, 0, -40), (0, 0)), ((0, 1, 39), (11, 0)), ((1, 0, -41), (11, 0))], "02: (0,40,40,1)"),
