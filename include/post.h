@@ -51,6 +51,12 @@ extern "C" {
  * named here. Where several codes would fit, the order is: 1 to 5; 6, by the limits' order in the file, then for the
  * limit handed to post_add; then by the links' order 7 and 8 of each link; 9; 10; 11 and 12, each in the order that its
  * call gives.
+ *
+ * A PLACE WITH 6, 7 OR 8 is an offset in the file: limit i begins at 24 + 12 x i, link i at 24 + 12 x m + 16 x i, and a
+ * field has four bytes. At fault are: a from, to or activation that is not below n; a weight below -1,000,000 or above
+ * 1,000,000; a contingent point that is not below n, is 0 or is the activation; a shortest duration of 0; a longest one
+ * below the shortest or above 1,000,000. Of a file that was lent, the field lies in it: place + 4 is at most file_len.
+ * The places of post_write are those of the file that it would have written.
  */
 enum post_code {
     POST_DONE = 0,              /* done, or accepted */
@@ -60,10 +66,13 @@ enum post_code {
     POST_BAD_COUNTS = 4,        /* more than 1,024 limits or more than 32 links */
     POST_BAD_LAYOUT = 5,        /* an offset or the file's length is not as laid down; post_write: lists that belong
                                    together differ in length */
-    POST_BAD_LIMIT = 6,         /* a limit out of range; place: index of the first; for the limit handed to post_add:
-                                   the number of the file's limits */
-    POST_BAD_LINK = 7,          /* a link out of range; place: its index */
-    POST_REPEATED_LINK = 8,     /* a link repeats an earlier one's contingent point; place: the later index */
+    POST_BAD_LIMIT = 6,         /* a limit out of range; place: the byte at which its first field at fault begins, of
+                                   from, to and weight; for the limit handed to post_add: as if it stood behind the
+                                   file's m limits, at 24 + 12 x m */
+    POST_BAD_LINK = 7,          /* a link out of range; place: the byte at which its first field at fault begins, of
+                                   activation, contingent point, shortest and longest */
+    POST_REPEATED_LINK = 8,     /* a link repeats an earlier one's contingent point; place: the byte at which the later
+                                   one's contingent point begins */
     POST_SHORT_ROOM = 9,        /* a lent slice is shorter than needed: n x n cells in each table, 2 x n x n in the
                                    scratch of post_add, n times of post_earliest, the file's bytes in the buffer of
                                    post_write, 4 x n x n cells in the work room of post_reasons; post_reasons: also a
@@ -138,7 +147,8 @@ uint64_t post_earliest(const uint8_t *file, size_t file_len, int32_t *strict, si
  *
  *   0        taken. Both tables are those of the plan that has every strict cell off the diagonal as a limit, and the
  *            new limit
- *   1 to 8   the file or the limit is refused; 6 with the number of the file's limits as its place is the new limit
+ *   1 to 8   the file or the limit is refused; 6 with a place from 24 + 12 x m on, m being the number of the file's
+ *            limits, is the new limit: its from at 24 + 12 x m, its to and its weight 4 and 8 further
  *   9        a table has fewer than n x n cells, or the scratch fewer than 2 x n x n
  *   12       the tables are not closed for the plan
  *   11       with the limit the plan cannot be carried out for every choice of durations: whatever is done, there are
@@ -164,9 +174,9 @@ uint64_t post_add(const uint8_t *file, size_t file_len, uint32_t x, uint32_t y, 
  *   3        n is not 1 to 64
  *   4        m is above 1,024, or k above 32
  *   5        `to` or `weight` has another length than m, or `con`, `shortest` or `longest` another than k
- *   6        a limit is out of range; place: index of the first
- *   7, 8     a link is out of range, or repeats an earlier one's contingent point; place: index of the first for which
- *            either is so, and 7 where both are
+ *   6        a limit is out of range; place: where the first field at fault would begin in the file
+ *   7, 8     a link is out of range, or repeats an earlier one's contingent point: the first for which either is so, and
+ *            7 where both are; place: where its field at fault would begin in the file, its contingent point with 8
  *   9        the buffer has fewer bytes than the file
  *
  * Refusals are looked for in that order; 1 and 2 never come. Lists of the fields of a file that post_judge does not
