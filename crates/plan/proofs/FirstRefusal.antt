@@ -57,7 +57,7 @@ module _ (size : ℕ) (h : Header) where
     head-next v e q = rw (le-leb 24 size room, eq-eqb (h .version) 1 v) (q ∙ rw e)
 
 -- past those tests n, m and k are in range
-head-counts : (size : ℕ) (h : Header) → headAnswer size h ≡ Done → CountsOk version1 (h .points) (h .limits) (h .links) (laidOut size h)
+pub head-counts : (size : ℕ) (h : Header) → headAnswer size h ≡ Done → CountsOk version1 (h .points) (h .limits) (h .links) (laidOut size h)
 head-counts size h e =
     let laid = laidOut size h in
     counts-ok version1 (h .points) (h .limits) (h .links) laid

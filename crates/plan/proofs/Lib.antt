@@ -1,5 +1,6 @@
 -- The plan file: its answer in the order of the code, what a sound file gives, and that a plan and its bytes are inverse.
 pub mod FileParts
+pub mod FaultsFound
 pub mod FirstFault
 pub mod FirstRefusal
 pub mod RecordTurns

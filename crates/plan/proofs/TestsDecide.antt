@@ -19,10 +19,10 @@ use Rattle.plan.specs.File.{limitAnswer, limitsAnswer, linkAnswer, links
 
 -- ---- tests
 
-leZ-le : (a b : ℤ) → leZ a b ≡ true → a ≤ℤ b
+pub leZ-le : (a b : ℤ) → leZ a b ≡ true → a ≤ℤ b
 leZ-le a b e = record { le = subst T (sym e) tt }
 
-le-leZ : (a b : ℤ) → a ≤ℤ b → leZ a b ≡ true
+pub le-leZ : (a b : ℤ) → a ≤ℤ b → leZ a b ≡ true
 le-leZ a b h = passes (leZ a b) (h .le)
   where
     passes : (t : Bool) → T t → t ≡ true
@@ -30,10 +30,10 @@ le-leZ a b h = passes (leZ a b) (h .le)
     passes false x = absurd x
 
 -- a test for two different numbers
-differ : (a b : ℕ) → not (eqb a b) ≡ true → a ≢ b
+pub differ : (a b : ℕ) → not (eqb a b) ≡ true → a ≢ b
 differ a b e = eqb-false a b (not-true (eqb a b) e)
 
-are-different : (a b : ℕ) → a ≢ b → not (eqb a b) ≡ true
+pub are-different : (a b : ℕ) → a ≢ b → not (eqb a b) ≡ true
 are-different a b h = rw (ne-eqb a b h)
 
 -- ---- n, m and k

@@ -5,11 +5,11 @@ ghost use Prim.Native.Nat.{_≤_};
 ghost use Rattle.rules.specs.Plan.{version1};
 ghost use Rattle.plan.specs.Layout.{limitAt, linkAt, records, earlier};
 ghost use Rattle.plan.specs.File.{fresh as File·fresh, limitsAnswer, linksAnswer};
-use answers::accepted;
 use crate::faults::limit_answer;
 use crate::faults::link_answer;
 use crate::record::limit_at;
 use crate::record::link_at;
+use answers::accepted;
 use rules::Answer;
 
 // The answer to the first m limits, of a plan of n points.

@@ -16,11 +16,11 @@ pub enum Answer {
     BadCounts,
     // 5: an offset or the file's length is not as laid down
     BadLayout,
-    // 6: a limit out of range; which one
+    // 6: a limit out of range; where in the file its field at fault begins
     BadLimit(u32),
-    // 7: a link out of range; which one
+    // 7: a link out of range; where its field at fault begins
     BadLink(u32),
-    // 8: a link repeats an earlier contingent point; the later one
+    // 8: a link repeats an earlier contingent point; where the later one begins
     RepeatedLink(u32),
     // 9: a lent slice is shorter than needed
     ShortRoom,

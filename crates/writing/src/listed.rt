@@ -75,7 +75,15 @@ fn fresh(act: &[u32], con: &[u32], short: &[u32], long: &[u32], i: u32, point: u
 }
 
 // The answer to the first k links, after m limits, of a plan of n points.
-pub fn links(n: u32, m: u32, k: u32, act: &[u32], con: &[u32], short: &[u32], long: &[u32]) -> Answer
+pub fn links(
+    n: u32,
+    m: u32,
+    k: u32,
+    act: &[u32],
+    con: &[u32],
+    short: &[u32],
+    long: &[u32],
+) -> Answer
     requires { ⌜ (m ≤ version1 .limits) × (k ≤ version1 .links) × (k ≤ length (now act)) × (k ≤ length (now con)) × (k ≤ length (now short)) × (k ≤ length (now long)) ⌝ }
     ensures { λ r. ⌜ r ≡ linksAnswer version1 n m 0 [] (records (linkIn (now (act .entry)) (now (con .entry)) (now (short .entry)) (now (long .entry))) 0 k) ⌝ }
 {
