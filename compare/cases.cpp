@@ -85,11 +85,11 @@ void adds(const Calls &calls, const char *name, Plan plan, Limit limit, std::uin
 void fixed_lengths(const Calls &calls) {
   gives(calls, "of document 02, item 2", {2, {}, {{0, 1, 40, 40}}}, {0, 40, -40, 0}, {0, 40, -40, 0});
   gives(calls, "of document 02, item 2, with u 41", {2, {}, {{0, 1, 40, 41}}}, {0, 41, -40, 0}, {0, 40, -40, 0});
-  refuses(calls, "of document 02, item 2, with l 41", {2, {}, {{0, 1, 41, 40}}}, 7);
+  refuses(calls, "of document 02, item 2, with l 41", {2, {}, {{0, 1, 41, 40}}}, 7, 36);
   gives(calls, "l = u = 1", {2, {}, {{0, 1, 1, 1}}}, {0, 1, -1, 0}, {0, 1, -1, 0});
   gives(calls, "l = u = 1,000,000", {2, {}, {{0, 1, 1000000, 1000000}}}, {0, 1000000, -1000000, 0}, {0, 1000000, -1000000, 0});
-  refuses(calls, "l = u = 0", {2, {}, {{0, 1, 0, 0}}}, 7);
-  refuses(calls, "l = u = 1,000,001", {2, {}, {{0, 1, 1000001, 1000001}}}, 7);
+  refuses(calls, "l = u = 0", {2, {}, {{0, 1, 0, 0}}}, 7, 32);
+  refuses(calls, "l = u = 1,000,001", {2, {}, {{0, 1, 1000001, 1000001}}}, 7, 36);
 
   // To the end of a fixed link Lower asks for w < 0. By 1>3 -1 it yields 0>3 4 - 1; joins alone yield 8 - 1, as they do with two limits for the link.
   // Everything else is joins: 0>2 is 0>3 and -2, 3>0 is -2 and the start edge, 3>1 is 3>0 and 0>1, and 3>1 stays above D(1), which is 4.
@@ -139,9 +139,9 @@ void cases(const Calls &calls) {
   expect(judge(calls, {2, {{1, 1, 0}}, {}}).answer == 0, calls.name, "k");
 
   refuses(calls, "l", {65, {}, {}}, 3);
-  refuses(calls, "l", {2, {{0, 1, 1000001}}, {}}, 6);
+  refuses(calls, "l", {2, {{0, 1, 1000001}}, {}}, 6, 32);
   expect(judge(calls, {2, {{0, 1, 1000000}}, {}}).answer == 0, calls.name, "l");
-  refuses(calls, "l", {2, {}, {{0, 1, 0, 5}}}, 7);
+  refuses(calls, "l", {2, {}, {{0, 1, 0, 5}}}, 7, 32);
   expect(judge(calls, {2, {}, {{0, 1, 1, 1000000}}}).answer == 0, calls.name, "l");
 
   fixed_lengths(calls);

@@ -543,11 +543,14 @@ struct Typed {
     unsound(with(12, 33), 4);
     unsound(with(20, 49), 5);
     unsound(Bytes(file.begin(), file.end() - 1), 5);
-    unsound(with(36, 3), 6, 1);
-    unsound(with(24 + 8, 1000001), 6, 0);
-    unsound(with(48 + 8, 6), 7, 0);
-    unsound(with(48 + 8, 0), 7, 0);
-    unsound(file_of({4, {}, {{0, 1, 2, 5}, {0, 2, 1, 1}, {3, 1, 1, 2}}}), 8, 2);
+    unsound(with(36, 3), 6, 36);
+    unsound(with(40, 3), 6, 40);
+    unsound(with(32, 1000001), 6, 32);
+    unsound(with(48, 3), 7, 48);
+    unsound(with(48, 1), 7, 52);  // A = C
+    unsound(with(56, 6), 7, 60);  // l above u
+    unsound(with(56, 0), 7, 56);
+    unsound(file_of({4, {}, {{0, 1, 2, 5}, {0, 2, 1, 1}, {3, 1, 1, 2}}}), 8, 60);
   }
 
   // ---- what lines of made lists rest on ----
