@@ -531,7 +531,7 @@ struct Typed {
     Bytes file = file_of({3, {{1, 2, -1}, {2, 1, 3}}, {{0, 1, 2, 5}}});
     const auto with = [&](std::size_t at, std::uint32_t number) {
       Bytes moved = file;
-      for (std::size_t i = 0; i < 4; ++i) moved[at + i] = std::uint8_t(number >> (8 * i));
+      set_field(moved, at, number);
       return moved;
     };
     unsound({}, 1);

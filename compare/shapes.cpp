@@ -209,10 +209,6 @@ void shuffle(Random &random, Plan &plan) {
   for (std::size_t i = plan.links.size(); i > 1; --i) std::swap(plan.links[i - 1], plan.links[random.below(std::uint32_t(i))]);
 }
 
-void set_field(std::vector<std::uint8_t> &file, std::size_t at, std::uint32_t value) {
-  for (std::size_t i = 0; i < 4 && at + i < file.size(); ++i) file[at + i] = std::uint8_t(value >> (8 * i));
-}
-
 }  // namespace
 
 Plan random_plan(Random &random, std::uint32_t points, std::uint32_t limits, std::uint32_t links) {
