@@ -310,6 +310,7 @@ Numbers lines_to(std::size_t end) {
 
 struct Seen {
   Codes codes;
+  Fields fields;
   std::array<std::uint64_t, 10> kinds{}, last_kinds{};
   std::array<std::uint64_t, list_count> only_short{};  // 9 for a list, by the list that was the only short one
   std::uint64_t calls = 0, short_work = 0, short_list = 0, no_room_and_done = 0, most_lines = 0, lines = 0;
@@ -327,6 +328,7 @@ std::uint64_t hold(const Asked &asked, Seen &seen, const Budget &budget) {
   }
   const std::uint32_t code = code_of(result.wanted), place = place_of(result.wanted);
   seen.codes.count(result.wanted);
+  seen.fields.count(result.wanted, field_at(asked.file, 8));
   ++seen.calls;
   const reference::Reading reading = reference::read(asked.file.data(), asked.file.size());
   if (reading.code != 0) return result.wanted;
@@ -800,7 +802,8 @@ int main(int words, char **word) {
   typed.seen.codes.print("Reasons, typed answers");
   seen.codes.print("Reasons, random");
 
-  bool missing = false;
+  bool missing = !typed.seen.fields.all_came("typed answers", false);
+  missing |= !seen.fields.all_came("random", false);
   for (std::uint32_t code : {0, 1, 2, 3, 4, 5, 6, 7, 8, 9, 11}) missing |= never(seen.codes.times[code] > 0, "code", code);
   for (std::size_t kind = 1; kind < 10; ++kind) missing |= never(seen.kinds[kind] > 0, "a line of kind", kind);
   for (std::size_t kind : {2, 6, 7, 8, 9}) missing |= never(seen.last_kinds[kind] > 0, "a last line of kind", kind);

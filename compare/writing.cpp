@@ -192,6 +192,7 @@ struct Typed {
   const Budget &budget;
   Random random;
   Codes codes;
+  Fields fields;
   std::uint64_t calls = 0;
   std::uint32_t furthest[9] = {};  // place, by code
 
@@ -203,6 +204,7 @@ struct Typed {
     if (code_of(answer) != code || place_of(answer) != place)
       report("both answer " + said(answer) + ", and it must be " + std::to_string(code) + " " + std::to_string(place), lent, budget);
     codes.count(answer);
+    fields.count(answer, lists.limits());
     ++calls;
     if (code >= 6 && code <= 8) furthest[code] = std::max(furthest[code], place);
   }
@@ -430,6 +432,7 @@ int main(int words, char **word) {
   Typed typed(budget);
   typed.all();
   Codes codes;
+  Fields fields;
   std::uint64_t sound = 0, controllable = 0;
   while (budget.more()) {
     Random random = budget.round();
@@ -441,6 +444,7 @@ int main(int words, char **word) {
     Writing lent = lend(random, lists, room);
     const std::uint64_t answer = hold(lent, budget);
     codes.count(answer);
+    fields.count(answer, lists.limits());
     sound += whole;
     // "writing what was read gives the same bytes"
     if (whole && (answer != (room < file.size() ? 9 : 0) || (answer == 0 && !std::equal(file.begin(), file.end(), lent.buffer.begin()))))
@@ -460,4 +464,6 @@ int main(int words, char **word) {
       std::printf("writing: code %u never came up in %llu random lists\n", code, static_cast<unsigned long long>(budget.done));
       return 1;
     }
+  const bool typed_came = typed.fields.all_came("typed answers", false), random_came = fields.all_came("random lists", false);
+  return !(typed_came && random_came);
 }
