@@ -1,6 +1,6 @@
 // Document 01's plans a to l and the plan of document 02's item 2, typed in from the papers with the answers they give, run on the reference and then on the
-// linked calls. Beside them plans about links of fixed length, with tables worked out by hand, and one plan whose strict cells fall for ever. Also document
-// 01's "Easy ways to be wrong" that name a case.
+// linked calls. Beside them plans about links of fixed length, with tables worked out by hand, and one plan whose strict cells fall for ever; and files
+// with the fields at fault that document 02's item 5 blames, through every call. Also document 01's "Easy ways to be wrong" that name a case.
 #include <algorithm>
 #include <cstdio>
 
@@ -9,7 +9,7 @@
 
 namespace {
 
-int wrong = 0;
+int wrong = 0, blamed_answers = 0;
 
 void expect(bool good, const char *calls, const char *what) {
   if (good) return;
@@ -85,11 +85,11 @@ void adds(const Calls &calls, const char *name, Plan plan, Limit limit, std::uin
 void fixed_lengths(const Calls &calls) {
   gives(calls, "of document 02, item 2", {2, {}, {{0, 1, 40, 40}}}, {0, 40, -40, 0}, {0, 40, -40, 0});
   gives(calls, "of document 02, item 2, with u 41", {2, {}, {{0, 1, 40, 41}}}, {0, 41, -40, 0}, {0, 40, -40, 0});
-  refuses(calls, "of document 02, item 2, with l 41", {2, {}, {{0, 1, 41, 40}}}, 7);
+  refuses(calls, "of document 02, item 2, with l 41", {2, {}, {{0, 1, 41, 40}}}, 7, 36);
   gives(calls, "l = u = 1", {2, {}, {{0, 1, 1, 1}}}, {0, 1, -1, 0}, {0, 1, -1, 0});
   gives(calls, "l = u = 1,000,000", {2, {}, {{0, 1, 1000000, 1000000}}}, {0, 1000000, -1000000, 0}, {0, 1000000, -1000000, 0});
-  refuses(calls, "l = u = 0", {2, {}, {{0, 1, 0, 0}}}, 7);
-  refuses(calls, "l = u = 1,000,001", {2, {}, {{0, 1, 1000001, 1000001}}}, 7);
+  refuses(calls, "l = u = 0", {2, {}, {{0, 1, 0, 0}}}, 7, 32);
+  refuses(calls, "l = u = 1,000,001", {2, {}, {{0, 1, 1000001, 1000001}}}, 7, 36);
 
   // To the end of a fixed link Lower asks for w < 0. By 1>3 -1 it yields 0>3 4 - 1; joins alone yield 8 - 1, as they do with two limits for the link.
   // Everything else is joins: 0>2 is 0>3 and -2, 3>0 is -2 and the start edge, 3>1 is 3>0 and 0>1, and 3>1 stays above D(1), which is 4.
@@ -101,6 +101,93 @@ void fixed_lengths(const Calls &calls) {
   // At 1>3 0 it does not apply, and 0>3 stays 8.
   gives(calls, "of Lower to a fixed end, 1>3 0", {4, {{1, 3, 0}}, {first, second}}, {0, 8, 6, 8, -4, 0, -2, 0, 0, 8, 0, 2, -2, 6, -2, 0},
         {0, 4, 2, 4, -4, 0, -2, 0, 0, 4, 0, 2, -2, 2, -2, 0});
+}
+
+// ---- document 02, item 5 ----
+
+using Bytes = std::vector<std::uint8_t>;
+
+// Fields of a file that are given other numbers, each by its offset; and the answer, with the offset of the field at fault.
+struct Blamed {
+  std::vector<std::pair<std::uint32_t, std::uint32_t>> moved;
+  std::uint32_t code, place;
+};
+
+// The file through every call: "Every caller passes it on." Add is handed this limit, Write the fields of the file's records as lists. No room is large
+// enough for anything, so that a call that does not refuse the file answers 9.
+void blames(const Calls &calls, Bytes file, const Blamed &blamed, const Limit &added = {0, 1, 5}, bool add_alone = false) {
+  std::string name = "of item 5 with";
+  for (const auto &[at, number] : blamed.moved) set_field(file, at, number), name += " " + std::to_string(number) + " at " + std::to_string(at) + ",";
+  const auto must = [&](const char *call, std::uint64_t answer) {
+    const bool good = code_of(answer) == blamed.code && place_of(answer) == blamed.place;
+    ++blamed_answers;
+    expect(good, calls.name, (name + " " + notation(added) + " for Add, in " + call + ", which answers " + said(answer) + ",").c_str());
+  };
+  const std::uint8_t *const at = file.data();
+  const std::size_t length = file.size();
+  std::int32_t strict[1] = {}, open[1] = {}, times[1] = {};
+  std::int64_t scratch[1] = {}, weights[1] = {};
+  std::uint32_t kinds[1] = {}, froms[1] = {}, tos[1] = {}, firsts[1] = {}, seconds[1] = {};
+  std::uint8_t buffer[1] = {};
+  must("Add", calls.add(at, length, added.from, added.to, std::int32_t(added.weight), strict, 1, open, 1, scratch, 1));
+  if (add_alone) return;
+  must("Judge", calls.judge(at, length, strict, 1, open, 1));
+  must("Check", calls.check(at, length, strict, 1, open, 1));
+  must("Earliest", calls.earliest(at, length, strict, 1, open, 1, times, 1));
+  must("Reasons", calls.reasons(at, length, kinds, 1, froms, 1, tos, 1, weights, 1, firsts, 1, seconds, 1, scratch, 1));
+  const Lists lists = lists_in(file);
+  must("Write", write_lists(calls.write, lists, places_of(lists), buffer, 1));
+}
+
+void places(const Calls &calls) {
+  constexpr std::uint32_t top = 0xffffffff, over = 1000001, under = std::uint32_t(-1000001);
+  // Limits at 24 and 36, links (A, C, l, u) at 48, 64 and 80.
+  const Bytes small = file_of({4, {{0, 1, 10}, {1, 0, -3}}, {{0, 1, 2, 5}, {0, 2, 1, 4}, {1, 3, 1, 1}}});
+  const std::vector<Blamed> in_small = {
+      // "for a limit the first bad one of from, to, weight": each alone, and beside those before it.
+      {{{24, 4}}, 6, 24}, {{{28, 4}}, 6, 28}, {{{32, over}}, 6, 32}, {{{32, under}}, 6, 32}, {{{36, top}}, 6, 36}, {{{40, top}}, 6, 40},
+      {{{44, over}}, 6, 44}, {{{24, 4}, {28, 4}}, 6, 24}, {{{28, 4}, {32, over}}, 6, 28}, {{{24, 4}, {32, under}}, 6, 24},
+      {{{36, 4}, {40, 4}, {44, over}}, 6, 36},
+      // The limits by their order, and all of them before the links.
+      {{{32, over}, {36, 4}}, 6, 32}, {{{44, over}, {48, 4}}, 6, 44}, {{{44, under}, {68, 1}}, 6, 44},
+      // A and C out of range; C that is 0; "A equal to C is blamed on C", 0 too; but A out of range before anything about C.
+      {{{48, 4}}, 7, 48}, {{{48, top}}, 7, 48}, {{{52, 4}}, 7, 52}, {{{52, top}}, 7, 52}, {{{48, 2}, {52, 0}}, 7, 52},
+      {{{48, 1}}, 7, 52}, {{{52, 0}}, 7, 52}, {{{48, 4}, {52, 4}}, 7, 48}, {{{48, 4}, {52, 5}}, 7, 48}, {{{48, 4}, {52, 0}}, 7, 48},
+      // "l only when it is 0", whatever u is; C before it.
+      {{{56, 0}}, 7, 56}, {{{56, 0}, {60, 0}}, 7, 56}, {{{56, 0}, {60, over}}, 7, 56}, {{{52, 0}, {56, 0}}, 7, 52}, {{{48, 1}, {56, 0}}, 7, 52},
+      {{{48, 4}, {56, 0}}, 7, 48},
+      // u too small, "a wrong order of l and u on u" wherever l lies, u too large; each field before it.
+      {{{60, 0}}, 7, 60}, {{{60, 1}}, 7, 60}, {{{56, 6}}, 7, 60}, {{{56, 1000000}}, 7, 60}, {{{56, over}}, 7, 60}, {{{56, top}}, 7, 60},
+      {{{60, over}}, 7, 60}, {{{60, top}}, 7, 60}, {{{56, over}, {60, over}}, 7, 60}, {{{56, top}, {60, top}}, 7, 60},
+      {{{56, over + 1}, {60, over}}, 7, 60}, {{{52, 4}, {60, 0}}, 7, 52}, {{{48, 1}, {60, over}}, 7, 52}, {{{48, 4}, {60, 1}}, 7, 48},
+      // The fields of later links.
+      {{{64, 4}}, 7, 64}, {{{68, 0}}, 7, 68}, {{{72, 0}}, 7, 72}, {{{76, 0}}, 7, 76}, {{{80, 4}}, 7, 80}, {{{80, 3}}, 7, 84},
+      {{{88, 0}}, 7, 88}, {{{88, 2}}, 7, 92},
+      // "for code 8 the C field", of the later link.
+      {{{68, 1}}, 8, 68}, {{{84, 2}}, 8, 84}, {{{52, 2}}, 8, 68}, {{{52, 3}}, 8, 84}, {{{68, 1}, {84, 1}}, 8, 68}, {{{68, 3}}, 8, 84},
+      // 7 before 8 in one link, whichever field is the first; but the links by their order.
+      {{{68, 1}, {64, 4}}, 7, 64}, {{{68, 1}, {64, 1}}, 7, 68}, {{{68, 1}, {72, 0}}, 7, 72}, {{{68, 1}, {76, 0}}, 7, 76},
+      {{{84, 2}, {92, over}}, 7, 92}, {{{68, 1}, {80, 4}}, 8, 68}, {{{68, 1}, {60, 0}}, 7, 60}, {{{84, 1}, {76, 0}}, 7, 76}};
+  for (const Blamed &blamed : in_small) blames(calls, small, blamed);
+
+  // The largest file: its last limit at 12,300, its links from 12,312, the last of them at 12,808.
+  Plan plan = {64, std::vector<Limit>(most_limits, {0, 1, 5}), {}};
+  for (std::uint32_t c = 1; c <= most_links; ++c) plan.links.push_back({0, c, 1, 9});
+  const Bytes largest = file_of(plan);
+  const std::vector<Blamed> in_largest = {{{{12300, 64}}, 6, 12300}, {{{12304, 64}}, 6, 12304}, {{{12308, over}}, 6, 12308}, {{{12312, 64}}, 7, 12312},
+                                          {{{12808, 64}}, 7, 12808}, {{{12812, 0}}, 7, 12812},  {{{12816, 0}}, 7, 12816},    {{{12820, 0}}, 7, 12820},
+                                          {{{12812, 1}}, 8, 12812}};
+  for (const Blamed &blamed : in_largest) blames(calls, largest, blamed);
+
+  // "A bad limit handed to Add reports offset 24 + 12m plus the field's offset in a record": behind the file's limits, before its links.
+  const auto adds = [&](const Bytes &file, const Limit &limit, const Blamed &blamed) { blames(calls, file, blamed, limit, true); };
+  for (const auto &[file, end] : {std::pair{file_of({4, {}, {}}), 24u}, {file_of({4, {}, {{0, 1, 2, 5}}}), 24u}, {small, 48u}}) {
+    for (std::uint32_t bad : {4u, top}) adds(file, {bad, 1, 5}, {{}, 6, end}), adds(file, {1, bad, 5}, {{}, 6, end + 4});
+    for (std::uint32_t bad : {over, under}) adds(file, {0, 1, std::int32_t(bad)}, {{}, 6, end + 8});
+    adds(file, {4, 4, 5}, {{}, 6, end}), adds(file, {0, 4, over}, {{}, 6, end + 4}), adds(file, {4, 0, over}, {{}, 6, end});
+  }
+  adds(largest, {64, 0, 5}, {{}, 6, 12312}), adds(largest, {0, 64, 5}, {{}, 6, 12316}), adds(largest, {0, 0, -1000001}, {{}, 6, 12320});
+  adds(small, {4, 1, 5}, {{{44, over}}, 6, 44}), adds(small, {0, 1, over}, {{{48, 4}}, 6, 56}), adds(small, {0, 4, 5}, {{{68, 1}}, 6, 52});
 }
 
 void cases(const Calls &calls) {
@@ -139,12 +226,13 @@ void cases(const Calls &calls) {
   expect(judge(calls, {2, {{1, 1, 0}}, {}}).answer == 0, calls.name, "k");
 
   refuses(calls, "l", {65, {}, {}}, 3);
-  refuses(calls, "l", {2, {{0, 1, 1000001}}, {}}, 6);
+  refuses(calls, "l", {2, {{0, 1, 1000001}}, {}}, 6, 32);
   expect(judge(calls, {2, {{0, 1, 1000000}}, {}}).answer == 0, calls.name, "l");
-  refuses(calls, "l", {2, {}, {{0, 1, 0, 5}}}, 7);
+  refuses(calls, "l", {2, {}, {{0, 1, 0, 5}}}, 7, 32);
   expect(judge(calls, {2, {}, {{0, 1, 1, 1000000}}}).answer == 0, calls.name, "l");
 
   fixed_lengths(calls);
+  places(calls);
 
   // Strict cells fall for ever and no strict diagonal turns negative; the open one does.
   refuses(calls, "of falling cells", {4, {{2, 3, -3}}, {{3, 2, 1, 7}, {0, 1, 2, 7}}}, 11);
@@ -175,8 +263,9 @@ int main() {
   cases(reference_calls);
   ways_to_be_wrong();
   if (wrong > 0) return 1;  // nothing below means anything while the reference is wrong
+  blamed_answers = 0;
   cases(linked_calls);
-  std::printf("cases a to l, document 02's item 2 and fixed lengths about it: reference as the papers have them, linked calls %s\n",
-              wrong ? "NOT as the papers have them" : "as the papers have them");
+  std::printf("cases a to l, document 02's item 2 and fixed lengths about it, %d answers with the field that item 5 blames: reference as the papers "
+              "have them, linked calls %s\n", blamed_answers, wrong ? "NOT as the papers have them" : "as the papers have them");
   return wrong > 0;
 }

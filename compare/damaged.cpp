@@ -17,11 +17,21 @@ File base_file(Random &random, Plan &plan) {
   return file_of(plan);
 }
 
+// A field of Add's limit, which may be at the end of its range too.
+void damage_added(Random &random, Limit &limit, std::uint32_t n) {
+  switch (random.below(4)) {
+    case 0: limit.from = edge_number(random, n); break;
+    case 1: limit.to = edge_number(random, n); break;
+    default: limit.weight = std::int32_t(edge_number(random, random.one_in(2) ? 1000000u : std::uint32_t(-1000000)));
+  }
+}
+
 }  // namespace
 
 int main(int words, char **word) {
   Budget budget(words, word, 100000);
   Tally tally;
+  Fields fields;
   std::uint64_t refused = 0;
   while (budget.more()) {
     Random random = budget.round();
@@ -31,17 +41,15 @@ int main(int words, char **word) {
     const Call call = static_cast<Call>(random.below(4));
     Case lent = lend(random, call, file, random.one_in(40) ? 64 : plan.points);
     lent.added = random_limit(random, plan);
-    if (random.one_in(4)) {
-      auto &end = random.one_in(2) ? lent.added.from : lent.added.to;
-      if (random.one_in(2)) end = edge_number(random, plan.points);
-      else lent.added.weight = std::int32_t(edge_number(random, random.one_in(2) ? 1000000u : std::uint32_t(-1000000)));
-    }
+    for (std::uint32_t times = random.one_in(4) ? 1 + random.below(3) : 0; times > 0; --times) damage_added(random, lent.added, plan.points);
     const std::uint64_t answer = hold(lent, budget);
     tally.count(call, answer);
+    fields.count(answer, field_at(file, 8));
     const std::uint32_t code = code_of(answer);
     refused += code >= 1 && code <= 8;
   }
   std::printf("damaged: %llu files, %llu of them refused as files, %.1f s, no difference\n", static_cast<unsigned long long>(budget.done),
               static_cast<unsigned long long>(refused), budget.spent());
   tally.print();
+  return !fields.all_came("damaged files", true);
 }

@@ -142,6 +142,30 @@ void Codes::print(const char *call) const {
   std::printf("\n");
 }
 
+void Fields::count(std::uint64_t answer, std::size_t limits) {
+  const std::size_t place = place_of(answer), links = 24 + 12 * limits;
+  switch (code_of(answer)) {
+    case 6: ++times[place < links ? (place - 24) % 12 / 4 : 3 + (place - links) % 12 / 4]; break;
+    case 7: ++times[6 + (place - links) % 16 / 4]; break;
+    case 8: times[10] += (place - links) % 16 == 4; break;
+    default: break;
+  }
+}
+
+bool Fields::all_came(const char *answers, bool with_add) const {
+  static const char *const names[] = {"6 at from", "6 at to", "6 at weight", "6 at Add's from", "6 at Add's to", "6 at Add's weight",
+                                      "7 at A",    "7 at C",  "7 at l",      "7 at u",          "8 at C"};
+  const auto asked = [&](std::size_t i) { return with_add || i < 3 || i >= 6; };
+  std::string line, never;
+  for (std::size_t i = 0; i < times.size(); ++i) {
+    if (!asked(i)) continue;
+    line += (line.empty() ? "" : ", ") + std::string(names[i]) + " " + std::to_string(times[i]);
+    if (times[i] == 0) never += std::string(answers) + ": code " + names[i] + " never came up\n";
+  }
+  std::printf("  fields at fault, %s: %s\n%s", answers, line.c_str(), never.c_str());
+  return never.empty();
+}
+
 void Tally::print() const {
   Codes::print_head();
   for (Call call : {Call::judge, Call::check, Call::add, Call::earliest}) {

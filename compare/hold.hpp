@@ -46,6 +46,15 @@ struct Codes {
   void print(const char *call) const;
 };
 
+// How often each field was at fault, told from an answer's place and the number of limits (document 02, item 5): of a limit of the file's, of Add's own limit,
+// of a link; with 8 it is C alone.
+struct Fields {
+  std::array<std::uint64_t, 11> times{};
+  void count(std::uint64_t answer, std::size_t limits);
+  // Prints them, and a sentence for each that never came up, but for Add's where Add is not called. True if all came up.
+  bool all_came(const char *answers, bool with_add) const;
+};
+
 struct Tally {
   std::array<Codes, 4> calls;
   void count(Call call, std::uint64_t answer) { calls[std::size_t(call)].count(answer); }

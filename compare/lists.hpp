@@ -38,6 +38,16 @@ inline Lists lists_of(const Plan &plan) {
   return lists;
 }
 
+// The fields of a file's records, whatever stands in them; its header and its length must be right.
+inline Lists lists_in(const std::vector<std::uint8_t> &file) {
+  Lists lists;
+  lists.points = field_at(file, 4);
+  const std::size_t links = field_at(file, 20);
+  for (std::size_t at = 24; at < file.size(); at += 4)
+    lists.fields[at < links ? from_list + (at - 24) / 4 % 3 : act_list + (at - links) / 4 % 4].push_back(field_at(file, at));
+  return lists;
+}
+
 // The number that stands in a list, with a weight's sign.
 inline Wide number_at(const Lists &lists, std::size_t list, std::size_t index) {
   const std::uint32_t field = lists.fields[list][index];

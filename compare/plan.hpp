@@ -37,6 +37,10 @@ inline std::uint32_t field_at(const std::vector<std::uint8_t> &bytes, std::size_
   return field;
 }
 
+inline void set_field(std::vector<std::uint8_t> &bytes, std::size_t offset, std::uint32_t field) {
+  for (std::size_t i = 0; i < 4 && offset + i < bytes.size(); ++i) bytes[offset + i] = std::uint8_t(field >> (8 * i));
+}
+
 // The plan's file, "Plan file" of document 01.
 inline std::vector<std::uint8_t> file_of(const Plan &plan) {
   std::vector<std::uint8_t> bytes;

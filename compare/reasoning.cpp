@@ -310,6 +310,7 @@ Numbers lines_to(std::size_t end) {
 
 struct Seen {
   Codes codes;
+  Fields fields;
   std::array<std::uint64_t, 10> kinds{}, last_kinds{};
   std::array<std::uint64_t, list_count> only_short{};  // 9 for a list, by the list that was the only short one
   std::uint64_t calls = 0, short_work = 0, short_list = 0, no_room_and_done = 0, most_lines = 0, lines = 0;
@@ -327,6 +328,7 @@ std::uint64_t hold(const Asked &asked, Seen &seen, const Budget &budget) {
   }
   const std::uint32_t code = code_of(result.wanted), place = place_of(result.wanted);
   seen.codes.count(result.wanted);
+  seen.fields.count(result.wanted, field_at(asked.file, 8));
   ++seen.calls;
   const reference::Reading reading = reference::read(asked.file.data(), asked.file.size());
   if (reading.code != 0) return result.wanted;
@@ -531,7 +533,7 @@ struct Typed {
     Bytes file = file_of({3, {{1, 2, -1}, {2, 1, 3}}, {{0, 1, 2, 5}}});
     const auto with = [&](std::size_t at, std::uint32_t number) {
       Bytes moved = file;
-      for (std::size_t i = 0; i < 4; ++i) moved[at + i] = std::uint8_t(number >> (8 * i));
+      set_field(moved, at, number);
       return moved;
     };
     unsound({}, 1);
@@ -543,11 +545,14 @@ struct Typed {
     unsound(with(12, 33), 4);
     unsound(with(20, 49), 5);
     unsound(Bytes(file.begin(), file.end() - 1), 5);
-    unsound(with(36, 3), 6, 1);
-    unsound(with(24 + 8, 1000001), 6, 0);
-    unsound(with(48 + 8, 6), 7, 0);
-    unsound(with(48 + 8, 0), 7, 0);
-    unsound(file_of({4, {}, {{0, 1, 2, 5}, {0, 2, 1, 1}, {3, 1, 1, 2}}}), 8, 2);
+    unsound(with(36, 3), 6, 36);
+    unsound(with(40, 3), 6, 40);
+    unsound(with(32, 1000001), 6, 32);
+    unsound(with(48, 3), 7, 48);
+    unsound(with(48, 1), 7, 52);  // A = C
+    unsound(with(56, 6), 7, 60);  // l above u
+    unsound(with(56, 0), 7, 56);
+    unsound(file_of({4, {}, {{0, 1, 2, 5}, {0, 2, 1, 1}, {3, 1, 1, 2}}}), 8, 60);
   }
 
   // ---- what lines of made lists rest on ----
@@ -797,7 +802,8 @@ int main(int words, char **word) {
   typed.seen.codes.print("Reasons, typed answers");
   seen.codes.print("Reasons, random");
 
-  bool missing = false;
+  bool missing = !typed.seen.fields.all_came("typed answers", false);
+  missing |= !seen.fields.all_came("random", false);
   for (std::uint32_t code : {0, 1, 2, 3, 4, 5, 6, 7, 8, 9, 11}) missing |= never(seen.codes.times[code] > 0, "code", code);
   for (std::size_t kind = 1; kind < 10; ++kind) missing |= never(seen.kinds[kind] > 0, "a line of kind", kind);
   for (std::size_t kind : {2, 6, 7, 8, 9}) missing |= never(seen.last_kinds[kind] > 0, "a last line of kind", kind);

@@ -1,5 +1,5 @@
-// Document 01, section by section: plan file, edges and rules, two tables, numbers returned; then what document 02 adds. Written to be read
-// beside them, not to be quick: rounds over every rule in the paper's words until nothing moves.
+// Document 01, section by section: plan file, edges and rules, two tables, numbers returned. From document 02: item 2 in a link's range, item 5 in
+// the places, and item 1 at the end. Written to be read beside them, not to be quick: rounds over every rule in the paper's words until nothing moves.
 #include "reference.hpp"
 
 #include <algorithm>
@@ -22,6 +22,27 @@ static bool link_in_range(const Link &link, std::uint32_t points) {
          link.longest <= most_weight && link.activation != link.contingent && link.contingent != 0;
 }
 
+// Places, document 02, item 5: "the offset in the file of the field at fault". Of a record that stands at `record`, each field in turn is good or
+// not, and the first that is not is meant.
+static std::uint32_t first_bad(std::uint32_t record, const std::vector<bool> &good) {
+  return record + 4 * std::uint32_t(std::find(good.begin(), good.end(), false) - good.begin());
+}
+
+// "for a limit the first bad one of from, to, weight"
+static std::uint32_t field_at_fault(std::uint32_t record, const Limit &limit, std::uint32_t points) {
+  const bool from = limit.from < points, to = limit.to < points, weight = -most_weight <= limit.weight && limit.weight <= most_weight;
+  return first_bad(record, {from, to, weight});
+}
+
+// "for a link of A, C, l, u, where A equal to C is blamed on C, a wrong order of l and u on u, and l only when it is 0"
+static std::uint32_t field_at_fault(std::uint32_t record, const Link &link, std::uint32_t points) {
+  const bool a = link.activation < points;
+  const bool c = link.contingent < points && link.contingent != 0 && link.contingent != link.activation;
+  const bool l = link.shortest != 0;
+  const bool u = link.longest >= link.shortest && link.longest <= most_weight;
+  return first_bad(record, {a, c, l, u});
+}
+
 Reading read(const std::uint8_t *file, std::size_t length, const Limit *added) {
   if (length < 24) return {1, 0, {}};
   if (field(file) != 1) return {2, 0, {}};
@@ -32,18 +53,21 @@ Reading read(const std::uint8_t *file, std::size_t length, const Limit *added) {
   Plan plan;
   plan.points = points;
   for (std::uint32_t i = 0; i < limits; ++i) {
-    const std::uint8_t *at = file + 24 + 12 * i;
+    const std::uint32_t record = 24 + 12 * i;
+    const std::uint8_t *at = file + record;
     const Limit limit = {field(at), field(at + 4), std::int32_t(field(at + 8))};
-    if (!limit_in_range(limit, points)) return {6, i, {}};
+    if (!limit_in_range(limit, points)) return {6, field_at_fault(record, limit, points), {}};
     plan.limits.push_back(limit);
   }
-  if (added && !limit_in_range(*added, points)) return {6, limits, {}};
+  // "A bad limit handed to Add reports offset 24 + 12m plus the field's offset in a record."
+  if (added && !limit_in_range(*added, points)) return {6, field_at_fault(24 + 12 * limits, *added, points), {}};
   for (std::uint32_t i = 0; i < links; ++i) {
-    const std::uint8_t *at = file + 24 + 12 * limits + 16 * i;
+    const std::uint32_t record = 24 + 12 * limits + 16 * i;
+    const std::uint8_t *at = file + record;
     const Link link = {field(at), field(at + 4), field(at + 8), field(at + 12)};
-    if (!link_in_range(link, points)) return {7, i, {}};
+    if (!link_in_range(link, points)) return {7, field_at_fault(record, link, points), {}};
     for (const Link &earlier : plan.links)
-      if (earlier.contingent == link.contingent) return {8, i, {}};
+      if (earlier.contingent == link.contingent) return {8, record + 4, {}};  // "for code 8 the C field"
     plan.links.push_back(link);
   }
   return {0, 0, plan};

@@ -29,7 +29,8 @@ struct Settled {
 };
 Settled settle(const Plan &plan, Wide heaviest, const Altered &altered = {});
 
-// What a file's bytes answer, codes 1 to 8, and the plan they hold when that is 0. `added`, if there is one, is Add's limit.
+// What a file's bytes answer, codes 1 to 8, the last three with a field's offset in the file as place, and the plan they hold when that is 0. `added`,
+// if there is one, is Add's limit.
 struct Reading {
   std::uint32_t code, place;
   Plan plan;

@@ -209,10 +209,6 @@ void shuffle(Random &random, Plan &plan) {
   for (std::size_t i = plan.links.size(); i > 1; --i) std::swap(plan.links[i - 1], plan.links[random.below(std::uint32_t(i))]);
 }
 
-void set_field(std::vector<std::uint8_t> &file, std::size_t at, std::uint32_t value) {
-  for (std::size_t i = 0; i < 4 && at + i < file.size(); ++i) file[at + i] = std::uint8_t(value >> (8 * i));
-}
-
 }  // namespace
 
 Plan random_plan(Random &random, std::uint32_t points, std::uint32_t limits, std::uint32_t links) {
@@ -295,16 +291,17 @@ void damage(Random &random, std::vector<std::uint8_t> &file, std::uint32_t n) {
         set_field(file, at, random.one_in(3) ? n + random.below(3) - 1 : edge_number(random, field_at(file, at)));
       }
       break;
-    case 6: case 7: case 8:  // a link's field: A for C, a shortest duration at or above the longest, repeated, out of range
+    case 6: case 7: case 8:  // a link's field: A for C, a shortest duration at or above the longest or 0, repeated, out of range
       if (k > 0) {
         const std::size_t record = 24 + 12 * m + 16 * random.below(std::uint32_t(k)), other = 24 + 12 * m + 16 * random.below(std::uint32_t(k));
         const std::size_t at = record + 4 * random.below(4);
-        switch (random.below(6)) {
+        switch (random.below(7)) {
           case 0: set_field(file, record + 4, field_at(file, record)); break;
           case 1: set_field(file, record + 8, field_at(file, record + 12) + random.below(2)); break;
           case 2: set_field(file, record + 4, field_at(file, other + 4)); break;
           case 3: set_field(file, at, n + random.below(3) - 1); break;
           case 4: set_field(file, record + 12, 1000000 + random.below(2)); break;
+          case 5: set_field(file, record + 8, 0); break;
           default: set_field(file, at, edge_number(random, field_at(file, at)));
         }
       }

@@ -41,20 +41,30 @@ bool fits(std::uint32_t x, std::uint32_t y, std::int32_t w, std::size_t n) {
   return x < n && y < n && w >= -1000000 && w <= 1000000;
 }
 
-// Codes 7 and 8 by the links' order; `link` gives the fields of the i-th.
+// Code 6 for a limit at `at` in the file that does not fit: where both points do, it is the weight.
+std::uint64_t refuse_limit(std::size_t at, std::uint32_t x, std::uint32_t y, std::size_t n) {
+  return refuse(6, at + (x >= n ? 0 : y >= n ? 4 : 8));
+}
+
+// Code 7 for a link at `at` that is not in range: where both points are and l is not 0, it is u, by itself or beside l.
+std::uint64_t refuse_link(std::size_t at, const LinkFields &link, std::size_t n) {
+  return refuse(7, at + (link.a >= n ? 0 : link.c >= n || link.c == link.a || link.c == 0 ? 4 : link.l == 0 ? 8 : 12));
+}
+
+// Codes 7 and 8 by the links' order; `link` gives the fields of the i-th, and the first of them lies at `at` in the file.
 template <class Links>
-std::uint64_t refuse_links(std::size_t k, std::size_t n, const Links &link) {
+std::uint64_t refuse_links(std::size_t at, std::size_t k, std::size_t n, const Links &link) {
   std::uint64_t ends = 0;  // a bit for each contingent point met
   for (std::size_t i = 0; i < k; ++i) {
     const auto [a, c, l, u] = link(i);
-    if (a >= n || c >= n || a == c || c == 0 || l == 0 || l > u || u > 1000000) return refuse(7, i);
-    if (ends >> c & 1) return refuse(8, i);
+    if (a >= n || c >= n || a == c || c == 0 || l == 0 || l > u || u > 1000000) return refuse_link(at + 16 * i, {a, c, l, u}, n);
+    if (ends >> c & 1) return refuse(8, at + 16 * i + 4);
     ends |= std::uint64_t(1) << c;
   }
   return 0;
 }
 
-// Codes 1 to 8. `extra` stands for Add's limit.
+// Codes 1 to 8. `extra` stands for Add's limit, which is refused as if it lay behind the file's.
 std::uint64_t open_file(View &view, const std::uint8_t *file, std::size_t length, const View::Limit *extra) {
   view = {file, 0, 0, 0};
   if (length < 24) return 1;
@@ -66,10 +76,10 @@ std::uint64_t open_file(View &view, const std::uint8_t *file, std::size_t length
   if (view.field(16) != 24 || view.field(20) != links || length != links + 16 * view.k) return 5;
   for (std::size_t i = 0; i < view.m; ++i) {
     const auto limit = view.limit(i);
-    if (!fits(limit.x, limit.y, limit.w, view.n)) return refuse(6, i);
+    if (!fits(limit.x, limit.y, limit.w, view.n)) return refuse_limit(24 + 12 * i, limit.x, limit.y, view.n);
   }
-  if (extra && !fits(extra->x, extra->y, extra->w, view.n)) return refuse(6, view.m);
-  return refuse_links(view.k, view.n, [&](std::size_t i) {
+  if (extra && !fits(extra->x, extra->y, extra->w, view.n)) return refuse_limit(links, extra->x, extra->y, view.n);
+  return refuse_links(links, view.k, view.n, [&](std::size_t i) {
     const std::size_t at = links + 16 * i;
     return LinkFields{view.field(at), view.field(at + 4), view.field(at + 8), view.field(at + 12)};
   });
@@ -416,10 +426,10 @@ std::uint64_t write(std::uint32_t n, const std::uint32_t *from, std::size_t m, c
   if (m > 1024 || k > 32) return 4;
   if (to_len != m || weight_len != m || con_len != k || shortest_len != k || longest_len != k) return 5;
   for (std::size_t i = 0; i < m; ++i)
-    if (!fits(from[i], to[i], weight[i], n)) return refuse(6, i);
-  const auto link = [&](std::size_t i) { return LinkFields{act[i], con[i], shortest[i], longest[i]}; };
-  if (const auto refused = refuse_links(k, n, link)) return refused;
+    if (!fits(from[i], to[i], weight[i], n)) return refuse_limit(24 + 12 * i, from[i], to[i], n);
   const std::size_t links = 24 + 12 * m;
+  const auto link = [&](std::size_t i) { return LinkFields{act[i], con[i], shortest[i], longest[i]}; };
+  if (const auto refused = refuse_links(links, k, n, link)) return refused;
   if (buffer_len < links + 16 * k) return 9;
   put(buffer, 1);
   put(buffer + 4, n);

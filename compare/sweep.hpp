@@ -16,7 +16,7 @@ decltype(post_write) write;
 decltype(post_reasons) reasons;  // these two in lines.cpp
 decltype(post_rests) rests;
 
-// Codes 1 to 8 of a file, with their places; else 0.
+// Codes 1 to 8 of a file, with 6, 7 and 8 the offset of the field at fault as place; else 0.
 std::uint64_t sound(const std::uint8_t *file, std::size_t file_len);
 
 // Judge in the library's way: one pass of joins, then one edge after the other spread through both tables (sweep.cpp, SpreadTables).

@@ -172,13 +172,19 @@ std::vector<std::uint32_t> some_below(std::uint32_t count) {
   return all;
 }
 
-// A fault, its answer, and how it is made; `short_by` is how many bytes the buffer has fewer than the file.
+// Where a field of the i-th record would stand in the file of m limits.
+std::uint32_t offset_of(List list, std::uint32_t i, std::size_t m) {
+  return std::uint32_t(list < act_list ? 24 + 12 * i + 4 * list : 24 + 12 * m + 16 * i + 4 * (list - act_list));
+}
+
+// A fault, its answer, the record that it is in, and how it is made; `short_by` is how many bytes the buffer has fewer than the file.
 struct Fault {
-  std::uint32_t code, place;
+  std::uint32_t code, record, place;
   std::function<void(Lists &lists, std::size_t &short_by)> make;
 
-  // "3, 4, 5, then 6, 7, 8 with the reader's places, then 9": of two faults that with the lesser rank is answered.
-  std::tuple<std::uint32_t, std::uint32_t, std::uint32_t> rank() const { return {code == 8 ? 7 : code, place, code}; }
+  // "3, 4, 5, then 6, 7, 8 with the reader's places, then 9": of two faults that with the lesser rank is answered. In one link that is 7 before 8,
+  // wherever its field stands, and of two fields the first.
+  std::tuple<std::uint32_t, std::uint32_t, std::uint32_t, std::uint32_t> rank() const { return {code == 8 ? 7 : code, record, code, place}; }
 };
 
 struct Typed {
@@ -186,6 +192,7 @@ struct Typed {
   const Budget &budget;
   Random random;
   Codes codes;
+  Fields fields;
   std::uint64_t calls = 0;
   std::uint32_t furthest[9] = {};  // place, by code
 
@@ -197,6 +204,7 @@ struct Typed {
     if (code_of(answer) != code || place_of(answer) != place)
       report("both answer " + said(answer) + ", and it must be " + std::to_string(code) + " " + std::to_string(place), lent, budget);
     codes.count(answer);
+    fields.count(answer, lists.limits());
     ++calls;
     if (code >= 6 && code <= 8) furthest[code] = std::max(furthest[code], place);
   }
@@ -206,42 +214,49 @@ struct Typed {
     must_into(std::min<std::size_t>(lists.file_size(), 20000), lists, code, place);
   }
 
-  // One field moved to numbers in its range, and to numbers that are not.
+  // The same with the place of the i-th record's field in `blamed`.
+  void must_blame(const Lists &lists, std::uint32_t code, List blamed, std::uint32_t i) { must(lists, code, offset_of(blamed, i, lists.limits())); }
+
+  // One field moved to numbers in its range, and to numbers that are not: those in `out` are its own fault, those in `beside` the fault of another.
   void moved(const Lists &sound, List list, std::uint32_t i, const std::vector<std::uint32_t> &in, const std::vector<std::uint32_t> &out,
-             std::uint32_t code) {
+             const std::vector<std::uint32_t> &beside = {}, List blamed = list_count) {
+    const std::uint32_t code = list < act_list ? 6 : 7;
     Lists lists = sound;
     for (std::uint32_t number : in) lists[list][i] = number, must(lists, 0);
-    for (std::uint32_t number : out) lists[list][i] = number, must(lists, code, i);
+    for (std::uint32_t number : out) lists[list][i] = number, must_blame(lists, code, list, i);
+    for (std::uint32_t number : beside) lists[list][i] = number, must_blame(lists, code, blamed, i);
   }
 
-  // Both durations of a link the same number, in their range and not; and a shortest one above, which is refused wherever it lies.
+  // Both durations of a link the same number, in their range and not; and a shortest one above, which wherever it lies is the longest one's fault.
   void fixed_lengths(const Lists &sound, std::uint32_t i, const std::vector<std::uint32_t> &in, const std::vector<std::uint32_t> &out) {
     Lists lists = sound;
+    const auto both = [&](std::uint32_t number) { lists[shortest_list][i] = lists[longest_list][i] = number; };
     for (std::uint32_t number : in) {
-      lists[shortest_list][i] = lists[longest_list][i] = number, must(lists, 0);
-      lists[shortest_list][i] = number + 1, must(lists, 7, i);
+      both(number), must(lists, 0);
+      lists[shortest_list][i] = number + 1, must_blame(lists, 7, longest_list, i);
     }
-    for (std::uint32_t number : out) lists[shortest_list][i] = lists[longest_list][i] = number, must(lists, 7, i);
+    for (std::uint32_t number : out) both(number), must_blame(lists, 7, longest_list, i);
+    both(0), must_blame(lists, 7, shortest_list, i);
   }
 
   void ends_of_ranges(std::uint32_t n, std::uint32_t m, std::uint32_t k) {
     const Lists sound = sound_lists(n, m, k);
     const auto weight = [](Wide number) { return std::uint32_t(number); };
     for (std::uint32_t i : some_below(m)) {
-      for (List point : {from_list, to_list}) moved(sound, point, i, {0, n - 1}, {n, n + 1, top / 2 + 1, top}, 6);
-      moved(sound, weight_list, i, {weight(-1000000), weight(-1), 0, 1, 1000000}, {weight(-1000001), 1000001, weight(INT32_MIN), INT32_MAX}, 6);
+      for (List point : {from_list, to_list}) moved(sound, point, i, {0, n - 1}, {n, n + 1, top / 2 + 1, top});
+      moved(sound, weight_list, i, {weight(-1000000), weight(-1), 0, 1, 1000000}, {weight(-1000001), 1000001, weight(INT32_MIN), INT32_MAX});
     }
     for (std::uint32_t i : some_below(k)) {
       const std::uint32_t a = n - 1, c = i + 1, another = c == 1 ? 2 : 1, l = 10 + i, u = 20 + i;
-      moved(sound, act_list, i, {0, n - 2, another}, {c, n, n + 1, top}, 7);
-      moved(sound, con_list, i, {n - 2}, {0, a, n, n + 1, top}, 7);
-      moved(sound, shortest_list, i, {1, u - 1, u}, {0, u + 1, 1000000, top}, 7);
-      moved(sound, longest_list, i, {l, l + 1, 1000000}, {0, 1, l - 1, 1000001, top}, 7);
-      fixed_lengths(sound, i, {1, 2, 999999, 1000000}, {0, 1000001, top});
+      moved(sound, act_list, i, {0, n - 2, another}, {n, n + 1, top}, {c}, con_list);
+      moved(sound, con_list, i, {n - 2}, {0, a, n, n + 1, top});
+      moved(sound, shortest_list, i, {1, u - 1, u}, {0}, {u + 1, 1000000, 1000001, top}, longest_list);
+      moved(sound, longest_list, i, {l, l + 1, 1000000}, {0, 1, l - 1, 1000001, top});
+      fixed_lengths(sound, i, {1, 2, 999999, 1000000}, {1000001, top});
       for (std::uint32_t j : some_below(k)) {
         Lists repeated = sound;
         repeated[con_list][j] = sound[con_list][i];
-        if (i != j) must(repeated, 8, std::max(i, j));
+        if (i != j) must_blame(repeated, 8, con_list, std::max(i, j));
       }
     }
   }
@@ -271,7 +286,7 @@ struct Typed {
     }
   }
 
-  // Two faults at once, made in the order given here, in which none undoes an earlier one.
+  // Two faults at once, made in the order given here, in which none undoes an earlier one that would be answered.
   void pairs_of_faults() {
     const Lists sound = sound_lists(9, 5, 4);
     const auto points = [](std::uint32_t n) { return [n](Lists &lists, std::size_t &) { lists.points = n; }; };
@@ -284,23 +299,32 @@ struct Typed {
     const auto copied = [](List list, std::size_t i, List from, std::size_t j) {
       return [=](Lists &lists, std::size_t &) { lists[list][i] = lists[from][j]; };
     };
-    std::vector<Fault> faults = {{3, 0, points(0)},
-                                 {3, 0, points(65)},
-                                 {4, 0, grown(from_list, weight_list, 1025)},
-                                 {4, 0, grown(act_list, longest_list, 33)},
-                                 {6, 1, field(from_list, 1, top)},
-                                 {6, 2, field(weight_list, 2, 1000001)},
-                                 {6, 4, field(to_list, 4, 9)},
-                                 {8, 1, copied(con_list, 1, con_list, 0)},
-                                 {8, 3, copied(con_list, 3, con_list, 0)},
-                                 {7, 0, field(shortest_list, 0, 0)},
-                                 {7, 2, field(longest_list, 2, sound[shortest_list][2] - 1)},
-                                 {7, 3, copied(act_list, 3, con_list, 3)}};
+    // The limits lie from 24 on, by 12, the links from 84 on, by 16. Faults in one record, too: all fields of limit 1 and of link 3.
+    std::vector<Fault> faults = {{3, 0, 0, points(0)},
+                                 {3, 0, 0, points(65)},
+                                 {4, 0, 0, grown(from_list, weight_list, 1025)},
+                                 {4, 0, 0, grown(act_list, longest_list, 33)},
+                                 {6, 1, 36, field(from_list, 1, top)},
+                                 {6, 1, 40, field(to_list, 1, 9)},
+                                 {6, 1, 44, field(weight_list, 1, std::uint32_t(-1000001))},
+                                 {6, 2, 56, field(weight_list, 2, 1000001)},
+                                 {6, 4, 76, field(to_list, 4, 9)},
+                                 {8, 1, 104, copied(con_list, 1, con_list, 0)},
+                                 {8, 3, 136, copied(con_list, 3, con_list, 0)},
+                                 {7, 0, 92, field(shortest_list, 0, 0)},
+                                 {7, 0, 96, field(longest_list, 0, 1000001)},
+                                 {7, 2, 128, field(longest_list, 2, sound[shortest_list][2] - 1)},
+                                 {7, 2, 128, field(shortest_list, 2, 1000001)},
+                                 {7, 3, 136, copied(act_list, 3, con_list, 3)},
+                                 {7, 3, 132, field(act_list, 3, 9)},
+                                 {7, 3, 140, field(shortest_list, 3, 0)},
+                                 {7, 3, 144, field(longest_list, 3, 0)},
+                                 {7, 3, 136, field(con_list, 3, 0)}};
     for (List list : {to_list, weight_list, con_list, shortest_list, longest_list})
       for (std::size_t length : {sound[list].size() - 1, sound[list].size() + 1, std::size_t(0)})
-        faults.push_back({5, 0, [=](Lists &lists, std::size_t &) { lists[list].resize(length, 1); }});
+        faults.push_back({5, 0, 0, [=](Lists &lists, std::size_t &) { lists[list].resize(length, 1); }});
     for (std::size_t missing : {std::size_t(1), std::size_t(100000)})
-      faults.push_back({9, 0, [missing](Lists &, std::size_t &short_by) { short_by = missing; }});
+      faults.push_back({9, 0, 0, [missing](Lists &, std::size_t &short_by) { short_by = missing; }});
 
     for (std::size_t i = 0; i < faults.size(); ++i)
       for (std::size_t j = i; j < faults.size(); ++j) {
@@ -408,6 +432,7 @@ int main(int words, char **word) {
   Typed typed(budget);
   typed.all();
   Codes codes;
+  Fields fields;
   std::uint64_t sound = 0, controllable = 0;
   while (budget.more()) {
     Random random = budget.round();
@@ -419,6 +444,7 @@ int main(int words, char **word) {
     Writing lent = lend(random, lists, room);
     const std::uint64_t answer = hold(lent, budget);
     codes.count(answer);
+    fields.count(answer, lists.limits());
     sound += whole;
     // "writing what was read gives the same bytes"
     if (whole && (answer != (room < file.size() ? 9 : 0) || (answer == 0 && !std::equal(file.begin(), file.end(), lent.buffer.begin()))))
@@ -438,4 +464,6 @@ int main(int words, char **word) {
       std::printf("writing: code %u never came up in %llu random lists\n", code, static_cast<unsigned long long>(budget.done));
       return 1;
     }
+  const bool typed_came = typed.fields.all_came("typed answers", false), random_came = fields.all_came("random lists", false);
+  return !(typed_came && random_came);
 }
