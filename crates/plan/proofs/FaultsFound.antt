@@ -1,32 +1,31 @@
 -- What a place with 6, 7 or 8 says: the first field at fault of the first record that is refused. Assumes nothing.
 use mathlib.Core.Path.{_≡_, refl, sym, ap, _∙_}
-use mathlib.Core.Logic.{_≢_, ⊎-elim}
-use mathlib.Core.Bool.{Bool, true, false, not, _&&_, true≢false}
+use mathlib.Core.Logic.{_≢_}
+use mathlib.Core.Bool.{Bool, true, false, not, true≢false}
 use mathlib.Core.List.{List, []}
 use Prim.Native.Nat.{ℕ, zero, suc, _+_, _≤_, _<_}
-use native.Mathlib.Nat.{eq-or-lt-of-le, zero-add}
+use native.Mathlib.Nat.{zero-add}
 use native.Mathlib.Omega.{arith}
 use lib.Dec.{leb, ltb, eqb}
 use lib.ListN.{length}
-use borrow.Author.Tests.{ltb-true, ltb-false, leb-true, leb-false, eqb-true, lt-ltb, le-ltb, le-leb}
-use lib.IntN.{pos, negℤ}
-use lib.Signed.{leZ}
+use borrow.Author.Tests.{ltb-true, ltb-false, leb-true, leb-false, eqb-true, lt-ltb, le-ltb}
+use borrow.Author.Count.{below-none, below-more}
 use Rattle.rules.specs.Plan.{Limit, Link, Ranges, version1, LimitInRange, LinkInRange}
 use Rattle.rules.specs.Answers.{codeOf, placeOf}
 use Rattle.rules.specs.declared.Answer.{Answer}
-use Rattle.rules.specs.declared.Answer.the-variants.{Done, FewBytes, BadVersion, BadPoints, BadCounts, BadLayout, BadLimit}
+use Rattle.rules.specs.declared.Answer.the-variants.{Done, FewBytes, BadVersion, BadLimit}
 use Rattle.answers.specs.Order.{_then_, unless}
 use Rattle.answers.proofs.CodeZero.{code-zero}
 use Rattle.plan.specs.declared.Header.{Header}
 use Rattle.plan.specs.Layout.{headOf, limitOffset, linkOffset, limitAt, linkAt, records, earlier, planOf}
-use Rattle.plan.specs.File.{pointsFit, countsFit, laidOut, formAnswer, countsAnswer, weightFits, limitTests, linkTests, limitFits, linkFits}
+use Rattle.plan.specs.File.{laidOut, formAnswer, countsAnswer, weightFits, contingentFits, longestFits, limitTests, linkTests, limitFits, linkFits}
 use Rattle.plan.specs.File.{fresh, firstBad, limitAnswer, limitsAnswer, linksAnswer, fileFront, fileAnswer, addAnswer}
-use Rattle.plan.specs.Faults.{WeightRight, LimitFault, ContingentRight, LongestRight, LinkFault, LimitBlamed, LinksBefore, LinkBlamed, FileBlamed, Places}
+use Rattle.plan.specs.Faults.{LimitFault, LinkFault, LimitBlamed, LinksBefore, LinkBlamed, FileBlamed, Places}
 use Rattle.plan.proofs.TestsMade.{both, and}
-use Rattle.plan.proofs.TestsDecide.{leZ-le, le-leZ, differ, are-different, limit-ok, limits-ok, link-ok}
+use Rattle.plan.proofs.TestsDecide.{differ, weight-ok, ok-weight, contingent-ok, ok-contingent, ok-longest, limit-ok, limits-ok, link-ok}
 use Rattle.plan.proofs.Records.{record-in}
 use Rattle.plan.proofs.FileParts.{limits-length, points-is, headAnswer, to-limits, front-parts, file-parts}
-use Rattle.plan.proofs.PlanCodes.{then-holds, unless-holds}
+use Rattle.plan.proofs.PlanCodes.{then-holds, unless-holds, counts-hold}
 use Rattle.plan.proofs.SoundFile.{laid-exactly}
 use Rattle.plan.proofs.FirstRefusal.{head-counts}
 
@@ -41,14 +40,6 @@ not-passed : (t : Bool) → (t ≡ true → ⊥) → t ≡ false
 not-passed true h = absurd (h refl)
 not-passed false h = refl
 
-weight-tested : (r : Ranges) (m : Limit) → WeightRight r m → weightFits r (m .weight) ≡ true
-weight-tested r m (l, u) = and (le-leZ _ _ l) (le-leZ _ _ u)
-
-tested-weight : (r : Ranges) (m : Limit) → weightFits r (m .weight) ≡ true → WeightRight r m
-tested-weight r m e =
-    let p = both (leZ (negℤ (pos (r .weight))) (m .weight)) (leZ (m .weight) (pos (r .weight))) e in
-    (leZ-le _ _ (p .0), leZ-le _ _ (p .1))
-
 limit-fault : (r : Ranges) (n : ℕ) (m : Limit) → limitFits r n m ≡ false → LimitFault r n m (firstBad (limitTests r n m))
 unfolding limitFits
 limit-fault r n m e = by (ltb (m .from) n) refl (ltb (m .to) n) refl (weightFits r (m .weight)) refl
@@ -58,7 +49,7 @@ limit-fault r n m e = by (ltb (m .from) n) refl (ltb (m .to) n) refl (weightFits
     by false p b q c s = rw p (LimitFault.bad-from (ltb-false (m .from) n p))
     by true p false q c s = rw (p, q) (LimitFault.bad-to (ltb-true (m .from) n p) (ltb-false (m .to) n q))
     by true p true q false s =
-        rw (p, q, s) (LimitFault.bad-weight (ltb-true (m .from) n p) (ltb-true (m .to) n q) (refuted (weight-tested r m) s))
+        rw (p, q, s) (LimitFault.bad-weight (ltb-true (m .from) n p) (ltb-true (m .to) n q) (refuted (ok-weight r m) s))
     by true p true q true s = absurd (true≢false (sym (and p (and q (and s refl))) ∙ e))
 
 -- and back: a limit with that field at fault is refused for it
@@ -67,48 +58,30 @@ unfolding limitFits
 fault-limit i {r} {n} {m} (LimitFault.bad-from a) = simp (le-ltb (m .from) n a)
 fault-limit i {r} {n} {m} (LimitFault.bad-to a b) = simp (lt-ltb (m .from) n a, le-ltb (m .to) n b)
 fault-limit i {r} {n} {m} (LimitFault.bad-weight a b c) =
-    let bad = not-passed (weightFits r (m .weight)) (λ e. c (tested-weight r m e)) in
+    let bad = not-passed (weightFits r (m .weight)) (λ e. c (weight-ok r m e)) in
     simp (lt-ltb (m .from) n a, lt-ltb (m .to) n b, bad)
-
-con-tested : (n : ℕ) (k : Link) → ContingentRight n k → (ltb (k .con) n && not (eqb (k .act) (k .con)) && not (eqb (k .con) 0)) ≡ true
-con-tested n k (l, d, z) = and (and (lt-ltb (k .con) n l) (are-different (k .act) (k .con) d)) (are-different (k .con) 0 z)
-
-tested-con : (n : ℕ) (k : Link) → (ltb (k .con) n && not (eqb (k .act) (k .con)) && not (eqb (k .con) 0)) ≡ true → ContingentRight n k
-tested-con n k e =
-    let p = both (ltb (k .con) n && not (eqb (k .act) (k .con))) (not (eqb (k .con) 0)) e in
-    let q = both (ltb (k .con) n) (not (eqb (k .act) (k .con))) (p .0) in
-    (ltb-true (k .con) n (q .0), differ (k .act) (k .con) (q .1), differ (k .con) 0 (p .1))
-
-long-tested : (r : Ranges) (k : Link) → LongestRight r k → (leb (k .short) (k .long) && leb (k .long) (r .weight)) ≡ true
-long-tested r k (o, m) = and (le-leb (k .short) (k .long) o) (le-leb (k .long) (r .weight) m)
 
 link-fault : (r : Ranges) (n : ℕ) (k : Link) → linkFits r n k ≡ false → LinkFault r n k (firstBad (linkTests r n k))
 unfolding linkFits
-link-fault r n k e = by (ltb (k .act) n) refl con refl (leb 1 (k .short)) refl long refl
+link-fault r n k e = by (ltb (k .act) n) refl (contingentFits n k) refl (leb 1 (k .short)) refl (longestFits r k) refl
   where
-    con : Bool
-    con = ltb (k .con) n && not (eqb (k .act) (k .con)) && not (eqb (k .con) 0)
-
-    long : Bool
-    long = leb (k .short) (k .long) && leb (k .long) (r .weight)
-
-    by : (a : Bool) → ltb (k .act) n ≡ a → (b : Bool) → con ≡ b → (c : Bool) → leb 1 (k .short) ≡ c → (d : Bool) → long ≡ d
+    by : (a : Bool) → ltb (k .act) n ≡ a → (b : Bool) → contingentFits n k ≡ b → (c : Bool) → leb 1 (k .short) ≡ c → (d : Bool) → longestFits r k ≡ d
         → LinkFault r n k (firstBad (linkTests r n k))
     by false p b q c s d t = rw p (LinkFault.bad-act (ltb-false (k .act) n p))
-    by true p false q c s d t = rw (p, q) (LinkFault.bad-con (ltb-true (k .act) n p) (refuted (con-tested n k) q))
+    by true p false q c s d t = rw (p, q) (LinkFault.bad-con (ltb-true (k .act) n p) (refuted (ok-contingent n k) q))
     by true p true q false s d t =
         let none : k .short ≡ 0 = omega (arith, leb-false 1 (k .short) s) in
-        rw (p, q, s) (LinkFault.bad-short (ltb-true (k .act) n p) (tested-con n k q) none)
+        rw (p, q, s) (LinkFault.bad-short (ltb-true (k .act) n p) (contingent-ok n k q) none)
     by true p true q true s false t =
         let some : k .short ≢ 0 = λ z. omega (arith, leb-true 1 (k .short) s) in
-        rw (p, q, s, t) (LinkFault.bad-long (ltb-true (k .act) n p) (tested-con n k q) some (refuted (long-tested r k) t))
+        rw (p, q, s, t) (LinkFault.bad-long (ltb-true (k .act) n p) (contingent-ok n k q) some (refuted (ok-longest r k) t))
     by true p true q true s true t = absurd (true≢false (sym (and p (and q (and s (and t refl)))) ∙ e))
 
 -- ---- records in file order
 
--- one more record has something said of it
-one-more : {P : ℕ → Type 0} {i : ℕ} → ((j : ℕ) → j < i → P j) → P i → (j : ℕ) → j < suc i → P j
-one-more {P} {i} h p j l = ⊎-elim (λ (e : j ≡ i). rw e p) (λ (g : j < i). h j g) (eq-or-lt-of-le (omega arith))
+-- what holds of the records below an index and of that one holds of those below the next
+below-next : (P : ℕ → Type 0) (i : ℕ) → ((j : ℕ) → j < i → P j) → P i → (j : ℕ) → j < suc i → P j
+below-next P i h p j l = below-more P i h p j (omega arith)
 
 -- the limits from index i on are refused, those before being in range
 abbrev LimitsFound : Ranges → ℕ → (ℕ → Limit) → ℕ → ℕ → Type 0
@@ -125,16 +98,16 @@ limits-found r n f i (suc left) before d = by (limits-found r n f (suc i) left) 
         → LimitBlamed r n f (i + suc left) (limitsAnswer r n i (records f i (suc left)))
     by rest false e = rw e (LimitBlamed.at-limit {i = i} (omega arith) before (limit-fault r n (f i) e))
     by rest true e =
-        let more = one-more {P = λ j. LimitInRange r n (f j)} before (limit-ok r n (f i) e) in
+        let more = below-next (λ j. LimitInRange r n (f j)) i before (limit-ok r n (f i) e) in
         let step : suc i + left ≡ i + suc left = omega arith in
         rw (e, ← step) (rest more (λ z. d (rw e z)))
 
 -- a point that is new is no earlier link's, and one that is not is some earlier link's
 fresh-apart : (c : ℕ) (f : ℕ → Link) (i : ℕ) → fresh c (earlier f i) ≡ true → (j : ℕ) → j < i → f j .con ≢ c
-fresh-apart c f zero e = λ j l. absurd (omega arith)
+fresh-apart c f zero e = below-none _
 fresh-apart c f (suc i) e =
     let p = both (not (eqb (f i .con) c)) (fresh c (earlier f i)) e in
-    one-more {P = λ j. f j .con ≢ c} (fresh-apart c f i (p .1)) (differ (f i .con) c (p .0))
+    below-next (λ j. f j .con ≢ c) i (fresh-apart c f i (p .1)) (differ (f i .con) c (p .0))
 
 record Repeats (c : ℕ) (f : ℕ → Link) (i : ℕ) : Type 0 where
   index : ℕ
@@ -171,9 +144,9 @@ links-found r n m f i (suc left) before d =
         rw (e, q) (LinkBlamed.at-repeat {i = i} (omega arith) before (link-ok r n (f i) e) (o .below) (o .same))
     by rest true e true q =
         let more : LinksBefore r n f (suc i) = record {
-          in-range = one-more {P = λ j. LinkInRange r n (f j)} (before .in-range) (link-ok r n (f i) e);
+          in-range = below-next (λ j. LinkInRange r n (f j)) i (before .in-range) (link-ok r n (f i) e);
           apart =
-              λ j h l g. one-more {P = λ j. (h : ℕ) → h < j → f h .con ≢ f j .con} (λ j l h g. before .apart j h l g)
+              λ j h l g. below-next (λ j. (h : ℕ) → h < j → f h .con ≢ f j .con) i (λ j l h g. before .apart j h l g)
               (fresh-apart (f i .con) f i q) j l h g;
         } in
         let step : suc i + left ≡ i + suc left = omega arith in
@@ -183,20 +156,14 @@ links-found r n m f i (suc left) before d =
 
 -- codes 1 to 5 come before all that
 head-code : (size : ℕ) (h : Header) → codeOf (headAnswer size h) ≤ 5
-unfolding countsAnswer
 head-code size h =
     let Low : Answer → Type 0 = λ a. codeOf a ≤ 5 in
     let laid = laidOut size h in
-    let points = pointsFit version1 (h .points) in
-    let counts = countsFit version1 (h .limits) (h .links) in
-    let two = unless (eqb (h .version) 1) BadVersion in
-    let four = unless counts BadCounts in
-    let five = unless laid BadLayout in
     then-holds Low (formAnswer size h) (countsAnswer version1 (h .points) (h .limits) (h .links) laid)
-    (then-holds Low (unless (leb 24 size) FewBytes) two (unless-holds Low (leb 24 size) FewBytes (omega arith) (omega arith))
+    (then-holds Low (unless (leb 24 size) FewBytes) (unless (eqb (h .version) 1) BadVersion)
+    (unless-holds Low (leb 24 size) FewBytes (omega arith) (omega arith))
     (unless-holds Low (eqb (h .version) 1) BadVersion (omega arith) (omega arith)))
-    (then-holds Low (unless points BadPoints) (four then five) (unless-holds Low points BadPoints (omega arith) (omega arith))
-    (then-holds Low four five (unless-holds Low counts BadCounts (omega arith) (omega arith)) (unless-holds Low laid BadLayout (omega arith) (omega arith))))
+    (counts-hold Low (omega arith) (omega arith) (omega arith) (omega arith) version1 (h .points) (h .limits) (h .links) laid)
 
 -- the answer to the links of a file
 abbrev to-links : List ℕ → Answer
@@ -228,12 +195,12 @@ file-faults s h = by (eqb (codeOf head) 0) refl (eqb (codeOf (to-limits s)) 0) r
     by true e false f =
         let is : fileAnswer s ≡ to-limits s = parts s ∙ simp (e, f) in
         let refused : to-limits s ≢ Done = λ d. true≢false (sym (ap (λ (a : Answer). eqb (codeOf a) 0) d) ∙ f) in
-        (code-zero head e, rw is (FileBlamed.by-limit (rw zero-add at (limits-found version1 n (limitAt s) 0 m (λ j l. absurd (omega arith)) refused))))
+        (code-zero head e, rw is (FileBlamed.by-limit (rw zero-add at (limits-found version1 n (limitAt s) 0 m (below-none _) refused))))
     by true e true f =
         let is : fileAnswer s ≡ to-links s = parts s ∙ simp (e, f) in
         let refused : to-links s ≢ Done = λ d. omega (arith, ap codeOf (is ∙ d)) in
         let none : LinksBefore version1 n (linkAt s m) 0 =
-        record { in-range = λ j l. absurd (omega arith); apart = λ j h l g. absurd (omega arith) } in
+        record { in-range = below-none _; apart = λ j h l g. absurd (omega arith) } in
         let ranged : (j : ℕ) → j < m → LimitInRange version1 n (limitAt s j) =
         λ j l. limits-ok version1 n 0 (records (limitAt s) 0 m) (code-zero (to-limits s) f) (limitAt s j) (record-in (limitAt s) 0 m j (omega arith) (omega arith)) in
         (code-zero head e, rw is (FileBlamed.by-link ranged (rw zero-add at (links-found version1 n m (linkAt s m) 0 (headOf s .links) none refused))))

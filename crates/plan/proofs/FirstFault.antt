@@ -1,15 +1,15 @@
 -- The first field at fault, as the code tests the fields in their order: which answer the first test that fails, or none, makes of a record.
 -- Assumes nothing.
 use mathlib.Core.Path.{_≡_}
-use mathlib.Core.Bool.{Bool, true, false, not, _&&_}
+use mathlib.Core.Bool.{Bool, true, false, not}
 use Prim.Native.Nat.{ℕ, _+_}
 use native.Mathlib.Nat.{add-zero}
-use lib.Dec.{leb, ltb, eqb}
+use lib.Dec.{leb, ltb}
 use borrow.Author.Tests.{not-true, not-false}
 use Rattle.rules.specs.Plan.{Limit, Link, Ranges}
 use Rattle.rules.specs.declared.Answer.the-variants.{Done, BadLimit, BadLink, RepeatedLink}
 use Rattle.plan.specs.Layout.{limitOffset, linkOffset}
-use Rattle.plan.specs.File.{weightFits, limitFits, linkFits, limitAnswer, linkAnswer}
+use Rattle.plan.specs.File.{weightFits, contingentFits, longestFits, limitFits, linkFits, limitAnswer, linkAnswer}
 use Rattle.plan.proofs.TestsMade.{failed, passed}
 
 -- ---- from, to and weight of the limit at index i; t is what a call said of the weight
@@ -41,13 +41,6 @@ module _ (r : Ranges) (n i : ℕ) (x : Limit) where
 
 -- ---- A, C, l and u of the link at index i after m limits, and whether C is new
 
--- the tests of C and of u
-abbrev con-test : ℕ → Link → Bool
-con-test n k = ltb (k .con) n && not (eqb (k .act) (k .con)) && not (eqb (k .con) 0)
-
-abbrev long-test : Ranges → Link → Bool
-long-test r k = leb (k .short) (k .long) && leb (k .long) (r .weight)
-
 module _ (r : Ranges) (n m i : ℕ) (new : Bool) (k : Link) where
   pub act-fault : not (ltb (k .act) n) ≡ true → BadLink (linkOffset m i) ≡ linkAnswer r n m i new k
   unfolding linkFits
@@ -57,13 +50,13 @@ module _ (r : Ranges) (n m i : ℕ) (new : Bool) (k : Link) where
     act-right : ltb (k .act) n ≡ true
     act-right = not-false (ltb (k .act) n) act
 
-    pub con-fault : not (con-test n k) ≡ true → BadLink (linkOffset m i + 4) ≡ linkAnswer r n m i new k
+    pub con-fault : not (contingentFits n k) ≡ true → BadLink (linkOffset m i + 4) ≡ linkAnswer r n m i new k
     unfolding linkFits
-    con-fault u = simp (act-right, not-true (con-test n k) u)
+    con-fault u = simp (act-right, not-true (contingentFits n k) u)
 
-    module _ (con : not (con-test n k) ≡ false) where
-      con-right : con-test n k ≡ true
-      con-right = not-false (con-test n k) con
+    module _ (con : not (contingentFits n k) ≡ false) where
+      con-right : contingentFits n k ≡ true
+      con-right = not-false (contingentFits n k) con
 
       pub short-fault : not (leb 1 (k .short)) ≡ true → BadLink (linkOffset m i + 8) ≡ linkAnswer r n m i new k
       unfolding linkFits
@@ -73,13 +66,13 @@ module _ (r : Ranges) (n m i : ℕ) (new : Bool) (k : Link) where
         short-right : leb 1 (k .short) ≡ true
         short-right = not-false (leb 1 (k .short)) short
 
-        pub long-fault : not (long-test r k) ≡ true → BadLink (linkOffset m i + 12) ≡ linkAnswer r n m i new k
+        pub long-fault : not (longestFits r k) ≡ true → BadLink (linkOffset m i + 12) ≡ linkAnswer r n m i new k
         unfolding linkFits
-        long-fault u = simp (act-right, con-right, short-right, not-true (long-test r k) u)
+        long-fault u = simp (act-right, con-right, short-right, not-true (longestFits r k) u)
 
-        module _ (long : not (long-test r k) ≡ false) where
-          long-right : long-test r k ≡ true
-          long-right = not-false (long-test r k) long
+        module _ (long : not (longestFits r k) ≡ false) where
+          long-right : longestFits r k ≡ true
+          long-right = not-false (longestFits r k) long
 
           pub con-again : not new ≡ true → RepeatedLink (linkOffset m i + 4) ≡ linkAnswer r n m i new k
           unfolding linkFits

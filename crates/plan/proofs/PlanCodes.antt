@@ -32,16 +32,16 @@ pub unless-holds : (P : Answer → Type 0) (t : Bool) (a : Answer) → P Done �
 unless-holds P true a d h = d
 unless-holds P false a d h = h
 
-module _ (P : Answer → Type 0) (each : Refusals P) (r : Ranges) where
-  counts-hold : (n m k : ℕ) (laid : Bool) → P (countsAnswer r n m k laid)
-  unfolding countsAnswer
-  counts-hold n m k laid =
-      let four = unless (countsFit r m k) BadCounts in
-      let five = unless laid BadLayout in
-      then-holds P (unless (pointsFit r n) BadPoints) (four then five) (unless-holds P (pointsFit r n) BadPoints (each .done) (each .points))
-      (then-holds P four five (unless-holds P (countsFit r m k) BadCounts (each .done) (each .counts))
-      (unless-holds P laid BadLayout (each .done) (each .layout)))
+pub counts-hold : (P : Answer → Type 0) → P Done → P BadPoints → P BadCounts → P BadLayout
+    → (r : Ranges) (n m k : ℕ) (laid : Bool) → P (countsAnswer r n m k laid)
+unfolding countsAnswer
+counts-hold P done three four five r n m k laid =
+    let counts = unless (countsFit r m k) BadCounts in
+    let layout = unless laid BadLayout in
+    then-holds P (unless (pointsFit r n) BadPoints) (counts then layout) (unless-holds P (pointsFit r n) BadPoints done three)
+    (then-holds P counts layout (unless-holds P (countsFit r m k) BadCounts done four) (unless-holds P laid BadLayout done five))
 
+module _ (P : Answer → Type 0) (each : Refusals P) (r : Ranges) where
   pub limit-holds : (n i : ℕ) (m : Limit) → P (limitAnswer r n i m)
   limit-holds n i m =
       let at = limitPlace r n i m in
@@ -71,7 +71,8 @@ module _ (P : Answer → Type 0) (each : Refusals P) (r : Ranges) where
   front-holds laid p =
       let m = length (p .limits) in
       let k = length (p .links) in
-      then-holds P (countsAnswer r (p .points) m k laid) (limitsAnswer r (p .points) 0 (p .limits)) (counts-hold (p .points) m k laid)
+      then-holds P (countsAnswer r (p .points) m k laid) (limitsAnswer r (p .points) 0 (p .limits))
+      (counts-hold P (each .done) (each .points) (each .counts) (each .layout) r (p .points) m k laid)
       (limits-hold (p .points) 0 (p .limits))
 
   pub back-holds : (p : Plan) → P (backAnswer r p)

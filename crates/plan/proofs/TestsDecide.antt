@@ -14,15 +14,16 @@ use Rattle.rules.specs.declared.Answer.the-variants.{Done, BadPoints, BadCounts
 use Rattle.plan.proofs.TestsMade.{both, and}
 use Rattle.answers.specs.Order.{_then_, unless}
 use Rattle.answers.proofs.CodeZero.{then-done, done-then, unless-done, done-unless}
-use Rattle.plan.specs.File.{pointsFit, countsFit, countsAnswer, weightFits, limitFits, linkFits, fresh, limitPlace, linkPlace, repeatPlace}
+use Rattle.plan.specs.File.{pointsFit, countsFit, countsAnswer, weightFits, contingentFits, longestFits, limitFits, linkFits, fresh, limitPlace, linkPlace, repeatPlace}
 use Rattle.plan.specs.File.{limitAnswer, limitsAnswer, linkAnswer, linksAnswer}
+use Rattle.plan.specs.Faults.{WeightRight, ContingentRight, LongestRight}
 
 -- ---- tests
 
-pub leZ-le : (a b : ℤ) → leZ a b ≡ true → a ≤ℤ b
+leZ-le : (a b : ℤ) → leZ a b ≡ true → a ≤ℤ b
 leZ-le a b e = record { le = subst T (sym e) tt }
 
-pub le-leZ : (a b : ℤ) → a ≤ℤ b → leZ a b ≡ true
+le-leZ : (a b : ℤ) → a ≤ℤ b → leZ a b ≡ true
 le-leZ a b h = passes (leZ a b) (h .le)
   where
     passes : (t : Bool) → T t → t ≡ true
@@ -33,7 +34,7 @@ le-leZ a b h = passes (leZ a b) (h .le)
 pub differ : (a b : ℕ) → not (eqb a b) ≡ true → a ≢ b
 differ a b e = eqb-false a b (not-true (eqb a b) e)
 
-pub are-different : (a b : ℕ) → a ≢ b → not (eqb a b) ≡ true
+are-different : (a b : ℕ) → a ≢ b → not (eqb a b) ≡ true
 are-different a b h = rw (ne-eqb a b h)
 
 -- ---- n, m and k
@@ -70,6 +71,37 @@ ok-counts r n m k laid c =
     let q : countsFit r m k ≡ true = and (le-leb m (r .limits) (c .limits)) (le-leb k (r .links) (c .links)) in
     simp (p, q, c .as-laid)
 
+-- ---- a weight, a contingent point and a longest duration
+
+pub weight-ok : (r : Ranges) (m : Limit) → weightFits r (m .weight) ≡ true → WeightRight r m
+weight-ok r m e =
+    let least = negℤ (pos (r .weight)) in
+    let most = pos (r .weight) in
+    let p = both (leZ least (m .weight)) (leZ (m .weight) most) e in
+    (leZ-le least (m .weight) (p .0), leZ-le (m .weight) most (p .1))
+
+pub ok-weight : (r : Ranges) (m : Limit) → WeightRight r m → weightFits r (m .weight) ≡ true
+ok-weight r m (l, u) = and (le-leZ (negℤ (pos (r .weight))) (m .weight) l) (le-leZ (m .weight) (pos (r .weight)) u)
+
+pub contingent-ok : (n : ℕ) (k : Link) → contingentFits n k ≡ true → ContingentRight n k
+contingent-ok n k e =
+    let below = ltb (k .con) n in
+    let differs = not (eqb (k .act) (k .con)) in
+    let p = both (below && differs) (not (eqb (k .con) 0)) e in
+    let q = both below differs (p .0) in
+    (ltb-true (k .con) n (q .0), differ (k .act) (k .con) (q .1), differ (k .con) 0 (p .1))
+
+pub ok-contingent : (n : ℕ) (k : Link) → ContingentRight n k → contingentFits n k ≡ true
+ok-contingent n k (l, d, z) = and (and (lt-ltb (k .con) n l) (are-different (k .act) (k .con) d)) (are-different (k .con) 0 z)
+
+pub longest-ok : (r : Ranges) (k : Link) → longestFits r k ≡ true → LongestRight r k
+longest-ok r k e =
+    let p = both (leb (k .short) (k .long)) (leb (k .long) (r .weight)) e in
+    (leb-true (k .short) (k .long) (p .0), leb-true (k .long) (r .weight) (p .1))
+
+pub ok-longest : (r : Ranges) (k : Link) → LongestRight r k → longestFits r k ≡ true
+ok-longest r k (o, m) = and (le-leb (k .short) (k .long) o) (le-leb (k .long) (r .weight) m)
+
 -- ---- limits
 
 pub limit-ok : (r : Ranges) (n : ℕ) (m : Limit) → limitFits r n m ≡ true → LimitInRange r n m
@@ -77,23 +109,15 @@ unfolding limitFits
 limit-ok r n m e =
     let to = ltb (m .to) n in
     let weight = weightFits r (m .weight) in
-    let least = leZ (negℤ (pos (r .weight))) (m .weight) in
-    let most = leZ (m .weight) (pos (r .weight)) in
     let p = both (ltb (m .from) n) (to && (weight && true)) e in
     let q = both to (weight && true) (p .1) in
-    let s = both least most (both weight true (q .1) .0) in
-    record {
-      from = ltb-true (m .from) n (p .0);
-      to = ltb-true (m .to) n (q .0);
-      least = leZ-le (negℤ (pos (r .weight))) (m .weight) (s .0);
-      most = leZ-le (m .weight) (pos (r .weight)) (s .1);
-    }
+    let w = weight-ok r m (both weight true (q .1) .0) in
+    record { from = ltb-true (m .from) n (p .0); to = ltb-true (m .to) n (q .0); least = w .0; most = w .1 }
 
 pub ok-limit : (r : Ranges) (n : ℕ) (m : Limit) → LimitInRange r n m → limitFits r n m ≡ true
 unfolding limitFits
 ok-limit r n m h =
-    let weight = and (le-leZ (negℤ (pos (r .weight))) (m .weight) (h .least)) (le-leZ (m .weight) (pos (r .weight)) (h .most)) in
-    and (lt-ltb (m .from) n (h .from)) (and (lt-ltb (m .to) n (h .to)) (and weight refl))
+    and (lt-ltb (m .from) n (h .from)) (and (lt-ltb (m .to) n (h .to)) (and (ok-weight r m (h .least, h .most)) refl))
 
 -- the answer to one limit is Done exactly where it is in range
 pub limit-taken : (r : Ranges) (n i : ℕ) (m : Limit) → limitAnswer r n i m ≡ Done → LimitInRange r n m
@@ -123,35 +147,29 @@ ok-limits r n i (x ∷ xs) h =
 pub ok-link : (r : Ranges) (n : ℕ) (k : Link) → LinkInRange r n k → linkFits r n k ≡ true
 unfolding linkFits
 ok-link r n k h =
-    let below = and (lt-ltb (k .con) n (h .con)) (are-different (k .act) (k .con) (h .differs)) in
-    let con = and below (are-different (k .con) 0 (h .not-start)) in
-    let long = and (le-leb (k .short) (k .long) (h .order)) (le-leb (k .long) (r .weight) (h .most)) in
+    let con = ok-contingent n k (h .con, h .differs, h .not-start) in
+    let long = ok-longest r k (h .order, h .most) in
     and (lt-ltb (k .act) n (h .act)) (and con (and (le-leb 1 (k .short) (h .least)) (and long refl)))
 
 pub link-ok : (r : Ranges) (n : ℕ) (k : Link) → linkFits r n k ≡ true → LinkInRange r n k
 unfolding linkFits
 link-ok r n k e =
-    let below = ltb (k .con) n in
-    let differs = not (eqb (k .act) (k .con)) in
-    let not-start = not (eqb (k .con) 0) in
-    let con = below && differs && not-start in
+    let con = contingentFits n k in
     let short = leb 1 (k .short) in
-    let order = leb (k .short) (k .long) in
-    let most = leb (k .long) (r .weight) in
-    let p = both (ltb (k .act) n) (con && (short && (order && most && true))) e in
-    let q = both con (short && (order && most && true)) (p .1) in
-    let s = both short (order && most && true) (q .1) in
-    let t = both order most (both (order && most) true (s .1) .0) in
-    let u = both (below && differs) not-start (q .0) in
-    let v = both below differs (u .0) in
+    let long = longestFits r k in
+    let p = both (ltb (k .act) n) (con && (short && (long && true))) e in
+    let q = both con (short && (long && true)) (p .1) in
+    let s = both short (long && true) (q .1) in
+    let c = contingent-ok n k (q .0) in
+    let l = longest-ok r k (both long true (s .1) .0) in
     record {
       act = ltb-true (k .act) n (p .0);
-      con = ltb-true (k .con) n (v .0);
-      differs = differ (k .act) (k .con) (v .1);
-      not-start = differ (k .con) 0 (u .1);
+      con = c .0;
+      differs = c .1;
+      not-start = c .2;
       least = leb-true 1 (k .short) (s .0);
-      order = leb-true (k .short) (k .long) (t .0);
-      most = leb-true (k .long) (r .weight) (t .1);
+      order = l .0;
+      most = l .1;
     }
 
 -- the answer to one link is Done exactly where it is in range and its contingent point is new

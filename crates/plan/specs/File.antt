@@ -41,19 +41,21 @@ countsAnswer r n m k laid =
 abbrev pub weightFits : Ranges → ℤ → Bool
 weightFits r w = leZ (negℤ (pos (r .weight))) w && leZ w (pos (r .weight))
 
--- Whether each field of a limit is right, in the record's order: "every point named is below n", and the weight.
+-- "every point named is below n", "A differs from C, C is not 0"; document 02, item 5: "A equal to C is blamed on C"
+abbrev pub contingentFits : ℕ → Link → Bool
+contingentFits n k = ltb (k .con) n && not (eqb (k .act) (k .con)) && not (eqb (k .con) 0)
+
+-- "u <= 1,000,000"; document 02, item 2: "From now on 1 <= l <= u.", and item 5: "a wrong order of l and u on u"
+abbrev pub longestFits : Ranges → Link → Bool
+longestFits r k = leb (k .short) (k .long) && leb (k .long) (r .weight)
+
+-- Whether each field of a limit is right, in the record's order: from, to, weight. "every point named is below n"
 abbrev pub limitTests : Ranges → ℕ → Limit → List Bool
 limitTests r n m = ltb (m .from) n ∷ ltb (m .to) n ∷ weightFits r (m .weight) ∷ []
 
--- The same of a link: "every point named is below n", "A differs from C, C is not 0", "u <= 1,000,000"; document 02, item 2: "From now on 1 <= l <= u."
--- Item 5: "A equal to C is blamed on C, a wrong order of l and u on u, and l only when it is 0".
+-- The same of a link: A, C, l, u, "and l only when it is 0".
 abbrev pub linkTests : Ranges → ℕ → Link → List Bool
-linkTests r n k =
-    ltb (k .act) n
-    ∷ (ltb (k .con) n && not (eqb (k .act) (k .con)) && not (eqb (k .con) 0))
-    ∷ leb 1 (k .short)
-    ∷ (leb (k .short) (k .long) && leb (k .long) (r .weight))
-    ∷ []
+linkTests r n k = ltb (k .act) n ∷ contingentFits n k ∷ leb 1 (k .short) ∷ longestFits r k ∷ []
 
 -- whether every field is right
 abbrev pub allRight : List Bool → Bool
