@@ -13,13 +13,20 @@ Inv-loop file n m i₀ i =
 abbrev μ-loop : tie.MeasureT-loop
 μ-loop file n m i₀ i = m - i
 
+returns : tie.Need-returns Inv-loop μ-loop
+returns c =
+    let answered = c .before .before in
+    let read = answered .before in
+    let turn = read .before .before in
+    let a = turn .before .before .args in
+    limits-stop version1 (a .n) (limitAt (a .file .now)) (turn .loop .i) (a .m) (turn .loop .inv .1) (omega arith) (read .limit-at .ensures)
+    (answered .limit-answer .ensures) (c .before .accepted .ensures) (c .if1 .taken)
+
 pub limits-spec : {M : Type 1} → statement M
 limits-spec =
     tie.close
     (tie.spec Inv-loop μ-loop
     (λ c. (omega arith, rw sub-zero))
-    (λ c κs. search needs) (λ c κs. omega arith) (λ c κs. search needs)
-    (λ c. search (limits-stop, arith))
-    (λ c. omega arith) (λ c. omega arith)
+    (λ c κs. search needs) (λ c κs. omega arith) (λ c κs. search needs) returns (λ c. omega arith) (λ c. omega arith)
     (λ c. (omega arith, search (limits-next, arith)))
     (λ c. search (limits-end, arith)))

@@ -13,13 +13,23 @@ Inv-loop n m k act con short long i₀ i =
     × (linksAnswer version1 n m 0 [] (records (linkIn act con short long) 0 k)
     ≡ linksAnswer version1 n m i (earlier (linkIn act con short long) i) (records (linkIn act con short long) i (k - i)))
 
+returns : tie.Need-returns Inv-loop (λ n m k act con short long i₀ i. k - i)
+returns c =
+    let answered = c .before .before in
+    let asked = answered .before in
+    let read = asked .before in
+    let turn = read .before .before in
+    let a = turn .before .before .before .before .before .args in
+    links-stop version1 (a .n) (a .m) (linkIn (a .act .now) (a .con .now) (a .short .now) (a .long .now)) (turn .loop .i) (a .k) (turn .loop .inv .1)
+    (omega arith) (read .link-in .ensures) (asked .fresh .ensures) (answered .link-answer .ensures) (c .before .accepted .ensures) (c .if1 .taken)
+
 pub links-spec : {M : Type 1} → statement M
 links-spec =
     tie.close
     (tie.spec Inv-loop (λ n m k act con short long i₀ i. k - i)
     (λ c. (omega arith, rw sub-zero))
     (λ c κs. search needs) (λ c κs. search needs) (λ c κs. (omega arith, omega arith)) (λ c κs. search needs)
-    (λ c. search (links-stop, arith))
+    returns
     (λ c. omega arith) (λ c. omega arith)
     (λ c. (omega arith, search (links-next, arith)))
     (λ c. search (links-end, arith)))
