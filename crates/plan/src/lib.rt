@@ -1,4 +1,5 @@
-// The plan file: from lent bytes to the paper's plan, with nothing copied. Every call here is total: it takes any bytes.
+// The plan file: from lent bytes to the paper's plan, with nothing copied. What reads a file is total: it takes any bytes. Only the answer to a
+// single record asks for something: an index in range, so that the record's offset fits into a place.
 // What each answers is said by the definitions of specs/, which follow the paper.
 mod faults;
 mod fits;
