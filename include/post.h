@@ -55,8 +55,9 @@ extern "C" {
  * A PLACE WITH 6, 7 OR 8 is an offset in the file: limit i begins at 24 + 12 x i, link i at 24 + 12 x m + 16 x i, and a
  * field has four bytes. At fault are: a from, to or activation that is not below n; a weight below -1,000,000 or above
  * 1,000,000; a contingent point that is not below n, is 0 or is the activation; a shortest duration of 0; a longest one
- * below the shortest or above 1,000,000. Of a file that was lent, the field lies in it: place + 4 is at most file_len.
- * The places of post_write are those of the file that it would have written.
+ * below the shortest or above 1,000,000. Where the file is refused the field lies in it: place + 4 is at most file_len.
+ * Not so for the limit handed to post_add, which lies in no file: with 6 and a place of 24 + 12 x m or more there may be
+ * no bytes to read. The places of post_write are those of the file that it would have written.
  */
 enum post_code {
     POST_DONE = 0,              /* done, or accepted */

@@ -18,7 +18,7 @@ use Rattle.rules.specs.declared.Answer.the-variants.{Done, FewBytes, BadVersion
 use Rattle.plan.specs.declared.Header.{Header}
 use Rattle.plan.specs.Layout.{headOf, limitOffset, linkOffset, limitAt, linkAt, planOf}
 use Rattle.answers.specs.Order.{_then_, unless}
-use Rattle.answers.proofs.CodeZero.{code-zero, then-done, done-then, unless-done, done-unless}
+use Rattle.answers.proofs.CodeZero.{code-zero, then-done, done-then, unless-done}
 use Rattle.plan.specs.File.{laidOut, formAnswer, limitAnswer, backAnswer, planAnswer, fileFront, fileAnswer, addAnswer, PlanFile}
 use Rattle.plan.proofs.TestsMade.{failed, passed, both, and}
 use Rattle.plan.proofs.FileParts.{file-parts}

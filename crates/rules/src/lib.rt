@@ -20,7 +20,7 @@ pub enum Answer {
     BadLimit(u32),
     // 7: a link out of range; where its field at fault begins
     BadLink(u32),
-    // 8: a link repeats an earlier contingent point; where the later one begins
+    // 8: a link repeats an earlier contingent point; where its own begins
     RepeatedLink(u32),
     // 9: a lent slice is shorter than needed
     ShortRoom,
