@@ -1,0 +1,1 @@
+-- What the walks through the code cite, and the laws of the four calls together.
