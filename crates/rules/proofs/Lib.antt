@@ -13,6 +13,7 @@ pub mod Domination
 pub mod FixedLength
 pub mod TablesClosed
 pub mod CellLimits
+pub mod Leading
 pub mod Additions
 pub mod Demands
 pub mod Times
