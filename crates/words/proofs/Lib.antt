@@ -1,1 +1,2 @@
 -- What the walks through the code cite, and the laws of the four calls together.
+mod Bits
