@@ -32,7 +32,7 @@ unfolding bit
 bit-suc w y = ap (λ (a : ℕ). eqb (a % 2) 1) (ap (λ (k : ℕ). w / 2 ^ k) (omega arith) ∙ sym (shr-shr w 1 y))
 
 -- halves
-half-lt : (k : ℕ) {w : ℕ} → w < 2 ^ suc k → w / 2 < 2 ^ k
+pub half-lt : (k : ℕ) {w : ℕ} → w < 2 ^ suc k → w / 2 < 2 ^ k
 half-lt k {w} h = shr-lt k 1 (subst (λ (j : ℕ). w < 2 ^ j) (omega arith) h)
 
 -- two digits that test alike are alike

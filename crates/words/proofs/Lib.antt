@@ -1,2 +1,5 @@
 -- What the walks through the code cite, and the laws of the four calls together.
 mod Bits
+mod Counts
+mod Asked
+mod Written

@@ -1,19 +1,11 @@
+-- `asking::asked` meets its contract: n and the points, then room for n words. Assumes nothing.
+use Rattle.words.proofs.Asked.{asked-bad, asked-short, asked-done}
 use Rattle.words.proofs.asking.asked.Statement.{statement}
 use Rattle.words.proofs.asking.asked.Tie as tie
-use Rattle.words.proofs.asking.asked.Reads as reads
-use Rattle.words.proofs.asking.asked.Lts as lts
-
--- src/asking.rt:15:9
-returns : tie.Need-returns
-returns c = ?
-
--- src/asking.rt:18:9
-returns-2 : tie.Need-returns-2
-returns-2 c = ?
-
--- src/asking.rt:11:1
-returns-3 : tie.Need-returns-3
-returns-3 c = ?
 
 pub asked-spec : {M : Type 1} → statement M
-asked-spec = tie.close (tie.spec returns returns-2 returns-3)
+asked-spec =
+    tie.close
+    (tie.spec (λ c. asked-bad _ _ _ _ (c .if1 .taken))
+    (λ c. asked-short _ _ _ _ (c .before .if1 .left) (c .if2 .taken))
+    (λ c. asked-done _ _ _ _ (c .before .if1 .left) (c .if2 .left)))

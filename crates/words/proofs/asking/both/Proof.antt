@@ -1,52 +1,27 @@
-use borrow.Author.Needs.{needs}
+-- `asking::both` meets its contract: the bits that both words have, or with a refusal none. Assumes nothing.
+use Rattle.lowering.proofs.Common.{needs, arith, length, sym, _∙_}
+use Rattle.words.proofs.Asked.{Asked, asked, was-refused, was-accepted, both-refused, both-word}
 use Rattle.words.proofs.asking.both.Statement.{statement}
 use Rattle.words.proofs.asking.both.Tie as tie
-use Rattle.words.proofs.asking.both.Reads as reads
-use Rattle.words.proofs.asking.both.Lts as lts
-use Rattle.answers.proofs.accepted.Reads as accepted-reads
-use Rattle.words.proofs.asking.asked.Reads as asked-reads
 
--- src/asking.rt:60:9
-asked-requires : tie.Need-asked-requires
-asked-requires c κs = search needs
+-- past the tests x and y are below n, and there are n words
+let-through : (c : tie.Else1) → Asked (c .before .before .before .before .args .n) (c .before .before .before .before .args .x) (c .before .before .before .before .args .y) (length (c .before .before .before .before .args .words .now))
+let-through c =
+    asked _ _ _ _ (sym (c .before .before .asked .ensures) ∙ was-accepted (c .before .accepted .ensures) (c .if1 .left))
 
--- src/asking.rt:61:9
-accepted-requires : tie.Need-accepted-requires
-accepted-requires c κs = search needs
-
--- src/asking.rt:62:9
 returns : tie.Need-returns
-returns c = ?
+returns c = both-refused (c .before .before .asked .ensures) (was-refused (c .before .accepted .ensures) (c .if1 .taken))
 
--- src/asking.rt:66:15
-mul-t9 : tie.Need-mul-t9
-mul-t9 c = search needs
-
--- src/asking.rt:66:15
-shared-slice-read-t11 : tie.Need-shared-slice-read-t11
-shared-slice-read-t11 c = ?
-
--- src/asking.rt:66:35
-mul-t13 : tie.Need-mul-t13
-mul-t13 c = search needs
-
--- src/asking.rt:66:35
-shared-slice-read-t15 : tie.Need-shared-slice-read-t15
-shared-slice-read-t15 c = ?
-
--- src/asking.rt:57:1
 returns-2 : tie.Need-returns-2
-returns-2 c = ?
+returns-2 c =
+    let else = c .before .before in
+    both-word (else .before .before .asked .ensures) (was-accepted (else .before .accepted .ensures) (else .if1 .left))
+    (c .shared-slice-known3 .given _ .fits) (c .shared-slice-known3 .given _ .fits)
 
 pub both-spec : {M : Type 1} → statement M
 both-spec =
     tie.close
-    (tie.spec
-    asked-requires
-    accepted-requires
-    returns
-    mul-t9
-    shared-slice-read-t11
-    mul-t13
-    shared-slice-read-t15
+    (tie.spec (λ c κs. search needs) (λ c κs. search needs) returns
+    (λ c. search needs) (λ c. let t = let-through (c .before) in omega (arith, t .first, t .room))
+    (λ c. search needs) (λ c. let t = let-through (c .before .before) in omega (arith, t .second, t .room))
     returns-2)

@@ -1,53 +1,29 @@
-use borrow.Author.Needs.{needs}
+-- `asking::bounded` meets its contract: the numbers of the word of x, or with a refusal those of a word of 0. Assumes nothing.
+use Rattle.lowering.proofs.Common.{needs, arith, length, sym, _∙_}
+use Rattle.words.proofs.Asked.{Asked, asked, was-refused, was-accepted, bounded-refused, bounded-numbers}
 use Rattle.words.proofs.asking.bounded.Statement.{statement}
 use Rattle.words.proofs.asking.bounded.Tie as tie
-use Rattle.words.proofs.asking.bounded.Reads as reads
-use Rattle.words.proofs.asking.bounded.Lts as lts
-use Rattle.answers.proofs.accepted.Reads as accepted-reads
-use Rattle.words.proofs.asking.asked.Reads as asked-reads
-use Rattle.words.proofs.asking.numbers.Reads as numbers-reads
 
--- src/asking.rt:49:9
-asked-requires : tie.Need-asked-requires
-asked-requires c κs = search needs
-
--- src/asking.rt:50:9
-accepted-requires : tie.Need-accepted-requires
-accepted-requires c κs = search needs
-
--- src/asking.rt:51:9
-numbers-requires : tie.Need-numbers-requires
-numbers-requires c κs = search needs
-
--- src/asking.rt:51:9
 returns : tie.Need-returns
-returns c = ?
+returns c =
+    let seen = c .before .before .accepted .ensures in
+    bounded-refused (c .before .before .before .asked .ensures) (was-refused seen (c .before .if1 .taken)) (c .numbers .ensures)
 
--- src/asking.rt:53:16
-mul-numbers : tie.Need-mul-numbers
-mul-numbers c = search needs
+-- past the tests x is below n, and there are n words
+let-through : (c : tie.Else1) → Asked (c .before .before .before .before .args .n) (c .before .before .before .before .args .x) (c .before .before .before .before .args .x) (length (c .before .before .before .before .args .words .now))
+let-through c =
+    asked _ _ _ _ (sym (c .before .before .asked .ensures) ∙ was-accepted (c .before .accepted .ensures) (c .if1 .left))
 
--- src/asking.rt:53:16
 shared-slice-read-numbers : tie.Need-shared-slice-read-numbers
-shared-slice-read-numbers c = ?
+shared-slice-read-numbers c = let t = let-through (c .before) in omega (arith, t .first, t .room)
 
--- src/asking.rt:53:5
-numbers-requires-2 : tie.Need-numbers-requires-2
-numbers-requires-2 c κs = search needs
-
--- src/asking.rt:46:1
 returns-2 : tie.Need-returns-2
-returns-2 c = ?
+returns-2 c =
+    let seen = c .before .before .before .accepted .ensures in
+    bounded-numbers (c .before .before .before .before .asked .ensures) (was-accepted seen (c .before .before .if1 .left)) (c .numbers2 .ensures)
 
 pub bounded-spec : {M : Type 1} → statement M
 bounded-spec =
     tie.close
-    (tie.spec
-    asked-requires
-    accepted-requires
-    numbers-requires
-    returns
-    mul-numbers
-    shared-slice-read-numbers
-    numbers-requires-2
-    returns-2)
+    (tie.spec (λ c κs. search needs) (λ c κs. search needs) (λ c κs. search needs) returns
+    (λ c. search needs) shared-slice-read-numbers (λ c κs. search needs) returns-2)

@@ -1,19 +1,15 @@
+-- `asking::highest` meets its contract: the zeros above the highest bit, the bit and those below it make 64. Assumes nothing.
+use Rattle.lowering.proofs.Common.{arith}
+use Rattle.words.proofs.Counts.{zero-highest, leading-highest, leading-few}
 use Rattle.words.proofs.asking.highest.Statement.{statement}
 use Rattle.words.proofs.asking.highest.Tie as tie
-use Rattle.words.proofs.asking.highest.Reads as reads
-use Rattle.words.proofs.asking.highest.Lts as lts
 
--- src/asking.rt:28:9
 returns : tie.Need-returns
-returns c = ?
-
--- src/asking.rt:30:5
-sub-result : tie.Need-sub-result
-sub-result c = ?
-
--- src/asking.rt:24:1
-returns-2 : tie.Need-returns-2
-returns-2 c = ?
+returns c = rw (c .if1 .taken) zero-highest
 
 pub highest-spec : {M : Type 1} → statement M
-highest-spec = tie.close (tie.spec returns sub-result returns-2)
+highest-spec =
+    tie.close
+    (tie.spec returns
+    (λ c. leading-few _ (omega (arith, c .if1 .left)) (c .before .fits .w .fits))
+    (λ c. leading-highest _ (omega (arith, c .if1 .left)) (c .before .fits .w .fits)))

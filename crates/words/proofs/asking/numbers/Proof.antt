@@ -1,17 +1,13 @@
-use borrow.Author.Needs.{needs}
+-- `asking::numbers` meets its contract: ones, trailing zeros and the highest bit. Assumes nothing.
+use Rattle.lowering.proofs.Common.{needs, refl}
+use Rattle.words.proofs.Counts.{ones-number, trailing-lowest}
 use Rattle.words.proofs.asking.numbers.Statement.{statement}
 use Rattle.words.proofs.asking.numbers.Tie as tie
-use Rattle.words.proofs.asking.numbers.Reads as reads
-use Rattle.words.proofs.asking.numbers.Lts as lts
-use Rattle.words.proofs.asking.highest.Reads as highest-reads
 
--- src/asking.rt:41:18
-highest-requires : tie.Need-highest-requires
-highest-requires c κs = search needs
-
--- src/asking.rt:34:1
 returns : tie.Need-returns
-returns c = ?
+returns c =
+    let w = c .before .args .w in
+    (refl, record { number-is = ones-number 64 w (c .before .fits .w .fits); lowest-is = trailing-lowest w; highest-is = c .highest .ensures })
 
 pub numbers-spec : {M : Type 1} → statement M
-numbers-spec = tie.close (tie.spec highest-requires returns)
+numbers-spec = tie.close (tie.spec (λ c κs. search needs) returns)

@@ -1,20 +1,12 @@
-use borrow.Author.Needs.{needs}
+-- `updating::take` meets its contract: the bits of both words where bit x is set. Assumes nothing.
+use Rattle.lowering.proofs.Common.{needs}
+use Rattle.words.proofs.Written.{bits-taken, bits-not-taken}
 use Rattle.words.proofs.updating.take.Statement.{statement}
 use Rattle.words.proofs.updating.take.Tie as tie
-use Rattle.words.proofs.updating.take.Reads as reads
-use Rattle.words.proofs.updating.take.Lts as lts
-
--- src/updating.rt:16:9
-shr-if1 : tie.Need-shr-if1
-shr-if1 c = search needs
-
--- src/updating.rt:17:9
-returns : tie.Need-returns
-returns c = ?
-
--- src/updating.rt:12:1
-returns-2 : tie.Need-returns-2
-returns-2 c = ?
 
 pub take-spec : {M : Type 1} → statement M
-take-spec = tie.close (tie.spec shr-if1 returns returns-2)
+take-spec =
+    tie.close
+    (tie.spec (λ c. search needs)
+    (λ c. bits-taken _ _ _ (c .before .fits .w .fits) (c .before .fits .to .fits) (c .if1 .taken))
+    (λ c. bits-not-taken _ _ _ (c .if1 .left)))
