@@ -51,8 +51,8 @@ same-bits zero a b ha hb e = lt-one ha ∙ sym (lt-one hb)
 same-bits (suc k) a b ha hb e =
     sym (div-add-mod' a 2)
     ∙ ap₂ (λ (p q : ℕ). p * 2 + q)
-        (same-bits k (a / 2) (b / 2) (half-lt k ha) (half-lt k hb) (λ y h. sym (bit-suc a y) ∙ e (suc y) (omega arith) ∙ bit-suc b y))
-        (same-digit a b (sym (bit-zero a) ∙ e 0 (omega arith) ∙ bit-zero b))
+    (same-bits k (a / 2) (b / 2) (half-lt k ha) (half-lt k hb) (λ y h. sym (bit-suc a y) ∙ e (suc y) (omega arith) ∙ bit-suc b y))
+    (same-digit a b (sym (bit-zero a) ∙ e 0 (omega arith) ∙ bit-zero b))
     ∙ div-add-mod' b 2
 
 -- a word of k bits has none from k on

@@ -38,8 +38,8 @@ ones-number zero w h = ap ones (lt-one h)
 ones-number (suc k) w h =
     ones-step w
     ∙ ap₂ (λ (a b : ℕ). a + b)
-        (sym (counted w) ∙ ap (λ (b : Bool). cond b 1 0) (sym (bit-zero w)))
-        (ones-number k (w / 2) (half-lt k h) ∙ same-number k (bit (w / 2)) (after (bit w)) (λ y j. sym (bit-suc w y)))
+    (sym (counted w) ∙ ap (λ (b : Bool). cond b 1 0) (sym (bit-zero w)))
+    (ones-number k (w / 2) (half-lt k h) ∙ same-number k (bit (w / 2)) (after (bit w)) (λ y j. sym (bit-suc w y)))
     ∙ sym (number-low k (bit w))
 
 -- ---- trailing zeros

@@ -7,8 +7,8 @@ mod updating;
 pub use asking::both;
 pub use asking::bounded;
 pub use building::reach;
-pub use updating::reach_add;
 use rules::Answer;
+pub use updating::reach_add;
 
 // What `bounded` answers: how many points, the lowest and the highest; 64 stands for no point.
 pub struct Extent {

@@ -25,7 +25,7 @@ loop-again c =
     let is = bound-read (args .n) (args .x) (loop .y) (args .strict .now) (c .before .before .get .ensures) (c .before .is-mark .ensures) in (
       search needs,
       ⊎-elim (λ w. w .1 ∙ bit-set bounded (loop .inv .1) (search needs) (is ∙ w .0 .taken)) (λ w. w .1 ∙ bit-left bounded (loop .inv .1) (is ∙ w .0 .left))
-      (c .if1 .came),
+          (c .if1 .came),
     )
 
 returns : tie.Need-returns Inv-loop μ-loop

@@ -1,37 +1,28 @@
-use borrow.Author.Needs.{needs}
+-- `updating::reach_add` meets its contract: n and the points, then n words, then the update. Assumes nothing.
+use Rattle.lowering.proofs.Common.{needs, arith, length, sym, _∙_}
+use Rattle.words.specs.Calls.{ReachAdded}
+use Rattle.words.proofs.Asked.{Asked, asked, was-refused, was-accepted}
 use Rattle.words.proofs.updating.reach_add.Statement.{statement}
 use Rattle.words.proofs.updating.reach_add.Tie as tie
-use Rattle.words.proofs.updating.reach_add.Reads as reads
-use Rattle.words.proofs.updating.reach_add.Lts as lts
-use Rattle.answers.proofs.accepted.Reads as accepted-reads
-use Rattle.words.proofs.asking.asked.Reads as asked-reads
-use Rattle.words.proofs.updating.update.Reads as update-reads
 
--- src/updating.rt:40:9
-asked-requires : tie.Need-asked-requires
-asked-requires c κs = search needs
-
--- src/updating.rt:41:9
-accepted-requires : tie.Need-accepted-requires
-accepted-requires c κs = search needs
-
--- src/updating.rt:42:9
 returns : tie.Need-returns
-returns c = ?
+returns c = ReachAdded.refused (c .before .before .asked .ensures) (was-refused (c .before .accepted .ensures) (c .if1 .taken))
 
--- src/updating.rt:44:5
+-- past the tests x and y are below n, and there are n words
+let-through : (c : tie.Else1) → Asked (c .before .before .before .before .args .n) (c .before .before .before .before .args .x) (c .before .before .before .before .args .y) (length (c .before .before .before .before .args .words .now))
+let-through c =
+    asked _ _ _ _ (sym (c .before .before .asked .ensures) ∙ was-accepted (c .before .accepted .ensures) (c .if1 .left))
+
 update-requires : tie.Need-update-requires
-update-requires c κs = ?
+update-requires c κs = let t = let-through (c .before) in (t .few, t .first, t .second, t .room)
 
--- src/updating.rt:37:1
-same-length : tie.Need-same-length
-same-length c = search needs
-
--- src/updating.rt:37:1
 returns-2 : tie.Need-returns-2
-returns-2 c = ?
+returns-2 c =
+    let else = c .before .before .before .before in
+    ReachAdded.updated (sym (else .before .before .asked .ensures) ∙ was-accepted (else .before .accepted .ensures) (else .if1 .left))
+    (c .before .before .update .ensures)
 
 pub reach-add-spec : {M : Type 1} → statement M
 reach-add-spec =
     tie.close
-    (tie.spec asked-requires accepted-requires returns update-requires same-length returns-2)
+    (tie.spec (λ c κs. search needs) (λ c κs. search needs) returns update-requires (λ c. search needs) returns-2)

@@ -1,0 +1,25 @@
+-- `building::reach` meets its contract: n, then the table and the words, then the building. Assumes nothing.
+use Rattle.lowering.proofs.Common.{needs, length, sym, _∙_}
+use Rattle.words.specs.Calls.{Reached}
+use Rattle.words.proofs.Asked.{Roomy, roomy, was-refused, was-accepted}
+use Rattle.words.proofs.building.reach.Statement.{statement}
+use Rattle.words.proofs.building.reach.Tie as tie
+
+returns : tie.Need-returns
+returns c = Reached.refused (c .before .before .room .ensures) (was-refused (c .before .accepted .ensures) (c .if1 .taken))
+
+build-requires : tie.Need-build-requires
+build-requires c κs =
+    let else = c .before in
+    let t = roomy _ _ _ (sym (else .before .before .room .ensures) ∙ was-accepted (else .before .accepted .ensures) (else .if1 .left)) in
+    (t .few, t .table, t .room)
+
+returns-2 : tie.Need-returns-2
+returns-2 c =
+    let else = c .before .before .before .before in
+    Reached.built (sym (else .before .before .room .ensures) ∙ was-accepted (else .before .accepted .ensures) (else .if1 .left))
+    (c .before .before .build .ensures)
+
+pub reach-spec : {M : Type 1} → statement M
+reach-spec =
+    tie.close (tie.spec (λ c κs. search needs) (λ c κs. search needs) returns build-requires (λ c. search needs) returns-2)
