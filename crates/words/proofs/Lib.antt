@@ -3,3 +3,4 @@ mod Bits
 mod Counts
 mod Asked
 mod Written
+mod Handed

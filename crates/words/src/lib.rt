@@ -2,11 +2,14 @@
 // Each call is total: it takes any tables and any words, and its statement fixes its answer for all of them.
 mod asking;
 mod building;
+mod handing;
 mod updating;
 
 pub use asking::both;
 pub use asking::bounded;
 pub use building::reach;
+pub use handing::both_into;
+pub use handing::bounded_into;
 use rules::Answer;
 pub use updating::reach_add;
 
