@@ -1,3 +1,4 @@
 -- What the walks through the code cite, and the laws of the four calls together.
 mod Bits
 mod OneAnswer
+mod Built
