@@ -2,3 +2,4 @@
 mod Bits
 mod OneAnswer
 mod Built
+mod Updated
