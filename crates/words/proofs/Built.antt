@@ -7,13 +7,12 @@ use mathlib.Core.List.{List}
 use Prim.Native.Nat.{ℕ, zero, suc, _+_, _*_, _≤_, _<_}
 use native.Mathlib.Omega.{arith}
 use native.Mathlib.Decide.{decLe}
-use lib.Dec.{eqb, leb, ltb}
+use lib.Dec.{leb, ltb}
 use lib.ListN.{length}
 use lib.IntN.{ℤ}
 use borrow.Author.Tests.{ltb-true, leb-true, lt-ltb, le-ltb, le-leb}
-use Rattle.rules.specs.Answers.{codeOf}
 use Rattle.rules.specs.declared.Answer.{Answer}
-use Rattle.rules.specs.declared.Answer.the-variants.{Done, BadPoints, ShortRoom}
+use Rattle.rules.specs.declared.Answer.the-variants.{Done, BadPoints, ShortRoom, NotControllable}
 use Rattle.rules.specs.Plan.{version1}
 use Rattle.rules.specs.Cells.{Cell, mark, num, tableOf}
 use Rattle.rules.specs.Calls.{Judged, Written}
@@ -30,7 +29,7 @@ use Rattle.words.specs.Sets.{Set, wordBits, numberOf, Lowest, Highest, N
 use Rattle.words.specs.Calls.{inRange, roomAnswer, askedAnswer, bounds, wordAt, FirstWords, Reached}
 use Rattle.words.specs.Laws.{BitsOfBuilt, BoundedOfBuilt, BothOfBuilt, Leads, BitsOfJudged}
 use Rattle.words.proofs.Bits.{no-bit, word-lt, word-bit}
-use Rattle.words.proofs.OneAnswer.{clash, number-below}
+use Rattle.words.proofs.OneAnswer.{clash, not-done, number-below}
 
 -- ---- what an answer of Done says
 
@@ -116,7 +115,7 @@ reached-done {n} {strict} {words} (Reached.built e f) i = record { room = room-d
 -- ---- the bits
 
 -- the word of a set of points below n has the bits of those
-word-bits : (n : ℕ) (s : Set) (y : ℕ) → bit (wordOf n s) y ≡ (ltb y n && s y)
+pub word-bits : (n : ℕ) (s : Set) (y : ℕ) → bit (wordOf n s) y ≡ (ltb y n && s y)
 word-bits n s y = by (decLe n y)
   where
     by : Dec (n ≤ y) → bit (wordOf n s) y ≡ (ltb y n && s y)
@@ -171,12 +170,12 @@ module _ (n : ℕ) (s : Set) (few : n ≤ wordBits) where
 
 -- ---- of built words
 
-built-word : {n : ℕ} {strict : List ℤ} {words words′ : List ℕ} → Build n strict words words′ → (x : ℕ) → x < n
+pub built-word : {n : ℕ} {strict : List ℤ} {words words′ : List ℕ} → Build n strict words words′ → (x : ℕ) → x < n
     → wordAt words′ x ≡ wordOf n (bounds n strict x)
 built-word b x h = b .words-are .first x h
 
 -- a call about points below n is answered
-built-asked : {n : ℕ} {strict : List ℤ} {words words′ : List ℕ} → Build n strict words words′ → {x y : ℕ} → x < n → y < n
+pub built-asked : {n : ℕ} {strict : List ℤ} {words words′ : List ℕ} → Build n strict words words′ → {x y : ℕ} → x < n → y < n
     → askedAnswer n x y (length words′) ≡ Done
 built-asked b hx hy =
     done-asked (record {
@@ -244,8 +243,8 @@ record Judgement (s : List ℕ) (strict weak strict′ weak′ : List ℤ) : Typ
 judged-done : {s : List ℕ} {strict weak strict′ weak′ : List ℤ} {a : Answer} → Judged version1 (fileAnswer s) (planOf s) strict weak a strict′ weak′
     → a ≡ Done → Judgement s strict weak strict′ weak′
 judged-done (Judged.bad-file d) i = absurd (d i)
-judged-done (Judged.short-room e q) i = absurd (clash refl (ap (λ (x : Answer). eqb (codeOf x) 0) (sym i)))
-judged-done (Judged.uncontrollable e q u m) i = absurd (clash refl (ap (λ (x : Answer). eqb (codeOf x) 0) (sym i)))
+judged-done (Judged.short-room e q) i = absurd (not-done ShortRoom refl i)
+judged-done (Judged.uncontrollable e q u m) i = absurd (not-done NotControllable refl i)
 judged-done (Judged.judged e q w) i = record { sound = e; written = w }
 
 pub bits-of-judged : BitsOfJudged

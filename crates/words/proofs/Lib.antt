@@ -3,3 +3,4 @@ mod Bits
 mod OneAnswer
 mod Built
 mod Updated
+mod AfterAdd

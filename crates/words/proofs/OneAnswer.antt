@@ -1,7 +1,7 @@
 -- One answer: two answers that meet a call's statement are equal, in code, number and every lent word. What a set's numbers are is settled by
 -- the set, and of a word of 0 they are those of no point. Assumes nothing.
 use mathlib.Core.Path.{_≡_, refl, sym, ap, _∙_}
-use mathlib.Core.Logic.{_⊎_, inl, inr}
+use mathlib.Core.Logic.{_≢_, _⊎_, inl, inr}
 use mathlib.Core.Bool.{Bool, true, false, true≢false}
 use mathlib.Core.List.{List}
 use Prim.Native.Nat.{ℕ, zero, suc, _≤_, _<_}
@@ -26,13 +26,17 @@ use Rattle.words.proofs.Bits.{no-bit}
 pub clash : {b : Bool} → b ≡ true → b ≡ false → ⊥
 clash p q = true≢false (sym p ∙ q)
 
+-- an answer with another code than 0 is not Done
+pub not-done : (a : Answer) → eqb (codeOf a) 0 ≡ false → a ≢ Done
+not-done a r e = clash (ap (λ (x : Answer). eqb (codeOf x) 0) e) r
+
 -- an answer is Done or it is not
 pub done-or-not : (a : Answer) → Dec (a ≡ Done)
 done-or-not a = by (eqb (codeOf a) 0) refl
   where
     by : (t : Bool) → eqb (codeOf a) 0 ≡ t → Dec (a ≡ Done)
     by true e = yes (code-zero a e)
-    by false e = no (λ d. clash (ap (λ (x : Answer). eqb (codeOf x) 0) d) e)
+    by false e = no (not-done a e)
 
 -- ---- lent words
 

@@ -22,9 +22,14 @@ pub record Update (n x y : ℕ) (words words′ : List ℕ) : Type 0 where
   pub asked : Asked n x y (length words)
   pub words-are : FirstWords n (λ i. taking x (wordAt words y) (wordAt words i)) words words′
 
-pub added-done : {n x y : ℕ} {words words′ : List ℕ} {a : Answer} → ReachAdded n x y words a words′ → a ≡ Done → Update n x y words words′
-added-done (ReachAdded.refused e d) i = absurd (d i)
-added-done {n} {x} {y} {words} (ReachAdded.updated e f) i = record { asked = asked-done n x y (length words) e; words-are = f }
+pub update-done : {n x y : ℕ} {words words′ : List ℕ} {a : Answer} → ReachAdded n x y words a words′ → a ≡ Done → Update n x y words words′
+update-done (ReachAdded.refused e d) i = absurd (d i)
+update-done {n} {x} {y} {words} (ReachAdded.updated e f) i = record { asked = asked-done n x y (length words) e; words-are = f }
+
+-- what it answers, whether or not it is Done
+pub update-answer : {n x y : ℕ} {words words′ : List ℕ} {a : Answer} → ReachAdded n x y words a words′ → a ≡ askedAnswer n x y (length words)
+update-answer (ReachAdded.refused e d) = e
+update-answer (ReachAdded.updated e f) = sym e
 
 -- ---- one word
 
@@ -156,10 +161,10 @@ module _ (x x′ u v w : ℕ) (hx : x < wordBits) (hx′ : x′ < wordBits) wher
 
 pub updated-in-any-order : UpdatedInAnyOrder
 updated-in-any-order n x y x′ y′ words one two one-two two-one a b c d =
-    let p : Update n x y words one = added-done a refl in
-    let q : Update n x′ y′ one one-two = added-done b refl in
-    let r : Update n x′ y′ words two = added-done c refl in
-    let s : Update n x y two two-one = added-done d refl in
+    let p : Update n x y words one = update-done a refl in
+    let q : Update n x′ y′ one one-two = update-done b refl in
+    let r : Update n x′ y′ words two = update-done c refl in
+    let s : Update n x y two two-one = update-done d refl in
     let hy : y < n = p .asked .second-below in
     let hy′ : y′ < n = r .asked .second-below in
     let hx : x < wordBits = omega (arith, p .asked .first-below, p .asked .points .most) in
