@@ -1,6 +1,6 @@
 -- After a taken Add: the words updated from the new limit are those that Reach builds from the new strict table. A number of that table was there
 -- before, or leads to the limit's beginning and on from its end; the update sets just those bits. Assumes nothing.
-use mathlib.Core.Path.{_≡_, refl, sym, ap, ap₂, _∙_}
+use mathlib.Core.Path.{_≡_, refl, sym, ap₂, _∙_}
 use mathlib.Core.Bool.{Bool, true, false, not, false≢true, _&&_, _||_, and-false, or-true}
 use mathlib.Core.List.{List}
 use Prim.Native.Nat.{ℕ, _^_, _≤_, _<_}
@@ -24,12 +24,13 @@ use Rattle.cell.specs.Steps.{isMark}
 use Rattle.plan.specs.Layout.{planOf}
 use Rattle.plan.specs.File.{fileAnswer, addAnswer}
 use Rattle.plan.proofs.SoundFile.{good, add-exactly}
-use Rattle.words.specs.Sets.{Set, wordBits, bit, wordOf}
-use Rattle.words.specs.Calls.{askedAnswer, bounds, wordAt, taking, FirstWords, Reached}
+use Rattle.words.specs.Sets.{Set, wordBits, wordOf}
+use Rattle.words.specs.Calls.{askedAnswer, bounds, wordAt, taking, Reached}
 use Rattle.words.specs.Laws.{UpdatedAsAfresh}
 use Rattle.words.proofs.Bits.{same-bits, word-lt}
 use Rattle.words.proofs.OneAnswer.{not-done}
-use Rattle.words.proofs.Built.{done-room, Build, reached-done, word-bits, built-word, built-asked, Numbered, numbered, bounds-number, number-bounds}
+use Rattle.words.proofs.Built.{done-room, Build, reached-done, word-bits, built-word, built-asked}
+use Rattle.words.proofs.Built.{Numbered, numbered, bounds-number, number-bounds}
 use Rattle.words.proofs.Updated.{Update, update-done, update-answer, taking-lt, taking-bit}
 
 -- ---- one word
@@ -42,7 +43,8 @@ word-wide n s few = omega (arith, word-lt n s, pow-mono {i = n} {j = wordBits} f
 taking-word : (n x : ℕ) (s t r : Set) → n ≤ wordBits → x < n → ((z : ℕ) → z < n → (s z || (s x && t z)) ≡ r z)
     → taking x (wordOf n t) (wordOf n s) ≡ wordOf n r
 taking-word n x s t r few hx e =
-    same-bits wordBits (taking x (wordOf n t) (wordOf n s)) (wordOf n r) (taking-lt x (wordOf n t) (wordOf n s) (word-wide n s few)) (word-wide n r few)
+    same-bits wordBits (taking x (wordOf n t) (wordOf n s)) (wordOf n r) (taking-lt x (wordOf n t) (wordOf n s) (word-wide n s few))
+    (word-wide n r few)
     (λ z h.
     taking-bit x (wordOf n t) (wordOf n s) z h
     ∙ (λ i. word-bits n s z i || (word-bits n s x i && word-bits n t z i))
@@ -137,7 +139,7 @@ module _ {s : List ℕ} {m : Limit} {strict weak strict′ weak′ : List ℤ} (
     afresh i h =
         ap₂ (taking (m .from)) (built-word b (m .to) (limit-ranged .to)) (built-word b i h)
         ∙ taking-word points (m .from) (bounds points strict i) (bounds points strict (m .to)) (bounds points strict′ i) (b .room .points .most)
-          (limit-ranged .from) (λ z hz. new-bounds i z h hz)
+        (limit-ranged .from) (λ z hz. new-bounds i z h hz)
 
     -- so the updated words are built from the new table
     rebuilt : {words₂ : List ℕ} → Update points (m .from) (m .to) words₁ words₂ → Reached points strict′ words₁ Done words₂

@@ -1,8 +1,8 @@
--- Words that Reach built: their bits are where the strict table has numbers, so what the calls about points answer of them is what the table says,
--- and after Judge it is where the plan's given edges lead. Assumes nothing.
+-- What an answer of Done says of a call's numbers. And words that Reach built: their bits are where the strict table has numbers, so what the
+-- calls about points answer of them is what the table says, and after Judge it is where the plan's given edges lead. Assumes nothing.
 use mathlib.Core.Path.{_≡_, refl, sym, ap, ap₂, subst, _∙_}
 use mathlib.Core.Logic.{_≢_}
-use mathlib.Core.Bool.{Bool, true, false, not, false≢true, cond, _&&_, and-false}
+use mathlib.Core.Bool.{Bool, true, not, false≢true, cond, _&&_, and-false}
 use mathlib.Core.List.{List}
 use Prim.Native.Nat.{ℕ, zero, suc, _+_, _*_, _≤_, _<_}
 use native.Mathlib.Omega.{arith}
@@ -18,7 +18,7 @@ use Rattle.rules.specs.Cells.{Cell, mark, num, tableOf}
 use Rattle.rules.specs.Calls.{Judged, Written}
 use Rattle.rules.proofs.Points.{Pointed, in-range-pointed}
 use Rattle.rules.proofs.Leading.{Led, number-led, led-number}
-use Rattle.answers.specs.Order.{_then_, unless}
+use Rattle.answers.specs.Order.{unless}
 use Rattle.answers.proofs.CodeZero.{then-done, done-then, unless-done, done-unless}
 use Rattle.cell.specs.Steps.{isMark}
 use Rattle.plan.specs.Layout.{planOf}
@@ -195,7 +195,7 @@ bounded-of-built n strict words words′ x r g h a =
     let d : r .answer ≡ Done = a .answer-is ∙ built-asked b h h in (
       d,
       numbers-points n (bounds n strict x) (b .room .points .most)
-      (subst (λ (w : ℕ). Numbers wordBits (bit w) (r .number) (r .lowest) (r .highest)) (built-word b x h) (a .numbers d)),
+          (subst (λ (w : ℕ). Numbers wordBits (bit w) (r .number) (r .lowest) (r .highest)) (built-word b x h) (a .numbers d)),
     )
 
 -- the word that both points' words make has the bits of both, and of no point from n on
@@ -216,9 +216,9 @@ both-of-built n strict words words′ x y r g hx hy a =
     let d : r .answer ≡ Done = a .answer-is ∙ built-asked b hx hy in (
       d,
       λ z.
-        ap (λ (w : ℕ). bit w z) (a .word-is d)
-        ∙ ap₂ (λ (u v : ℕ). bit (wordOf wordBits (λ y. bit u y && bit v y)) z) (built-word b x hx) (built-word b y hy)
-        ∙ both-bits (bounds n strict x) (bounds n strict y) (b .room .points .most) z,
+          ap (λ (w : ℕ). bit w z) (a .word-is d)
+          ∙ ap₂ (λ (u v : ℕ). bit (wordOf wordBits (λ y. bit u y && bit v y)) z) (built-word b x hx) (built-word b y hy)
+          ∙ both-bits (bounds n strict x) (bounds n strict y) (b .room .points .most) z,
     )
 
 -- ---- after Judge
@@ -275,4 +275,4 @@ bits-of-judged s strict weak strict′ weak′ words words′ j r x y hx hy = (t
     back l =
         bit-is
         ∙ number-bounds (tableOf version1 n strict′ x y)
-          (led-number pointed (judgement .written .tables) hx hy (record { total = l .0; walk = l .1 }))
+        (led-number pointed (judgement .written .tables) hx hy (record { total = l .0; walk = l .1 }))

@@ -15,10 +15,8 @@ use Rattle.rules.specs.Answers.{codeOf}
 use Rattle.rules.specs.declared.Answer.{Answer}
 use Rattle.rules.specs.declared.Answer.the-variants.{Done}
 use Rattle.answers.proofs.CodeZero.{code-zero}
-use Rattle.words.specs.declared.Extent.{Extent}
-use Rattle.words.specs.declared.Common.{Common}
 use Rattle.words.specs.Sets.{Set, wordBits, numberOf, Lowest, Highest, Numbers, bit}
-use Rattle.words.specs.Calls.{wordAt, FirstWords, Reached, BoundedIs, BothIs, ReachAdded}
+use Rattle.words.specs.Calls.{wordAt, FirstWords, Reached, ReachAdded}
 use Rattle.words.specs.Laws.{WordOfZero, ReachedOnce, BoundedOnce, BothOnce, ReachAddedOnce}
 use Rattle.words.proofs.Bits.{no-bit}
 

@@ -1,6 +1,6 @@
--- Words that Update changed, whatever they were: the same update once more changes nothing, and two updates leave the same in either order. A word that
--- has none of the bits asked for is left alone, so these hold of any numbers; any other becomes a word of 64 bits, and those are told by their bits.
--- Assumes nothing.
+-- Words that Update changed, whatever they were: the same update once more changes nothing, and two updates leave the same in either order.
+-- A word that has none of the bits asked for is left alone, so these hold of any numbers; any other becomes a word of 64 bits, and
+-- those are told by their bits. Assumes nothing.
 use mathlib.Core.Path.{_≡_, refl, sym, ap, ap₂, _∙_}
 use mathlib.Core.Bool.{Bool, true, false, cond, _&&_, _||_, or-false}
 use mathlib.Core.List.{List}
@@ -64,7 +64,7 @@ kept x to w z h e = taking-bit x to w z h ∙ ap (λ (b : Bool). b || (bit w x &
 -- the bits after two updates, of word w, where the first took u's bits and the second takes those that v has by then
 two-bits : (x x′ u v w z : ℕ) → x′ < wordBits → z < wordBits
     → bit (taking x′ (taking x u v) (taking x u w)) z
-        ≡ (bit w z || (bit w x && bit u z) || ((bit w x′ || (bit w x && bit u x′)) && (bit v z || (bit v x && bit u z))))
+    ≡ (bit w z || (bit w x && bit u z) || ((bit w x′ || (bit w x && bit u x′)) && (bit v z || (bit v x && bit u z))))
 two-bits x x′ u v w z hx hz =
     taking-bit x′ (taking x u v) (taking x u w) z hz
     ∙ λ i. taking-bit x u w z hz i || (taking-bit x u w x′ hx i && taking-bit x u v z hz i)
@@ -84,7 +84,8 @@ word-twice x u w hx = by (bit w x) refl
   where
     by : (b : Bool) → bit w x ≡ b → taking x (taking x u u) (taking x u w) ≡ taking x u w
     by true e =
-        same-bits wordBits (taking x (taking x u u) (taking x u w)) (taking x u w) (taking-lt x (taking x u u) (taking x u w) (made x u w e)) (made x u w e)
+        let small : taking x u w < 2 ^ wordBits = made x u w e in
+        same-bits wordBits (taking x (taking x u u) (taking x u w)) (taking x u w) (taking-lt x (taking x u u) (taking x u w) small) small
         (λ z h. two-bits x x u u w z hx h ∙ twice-table (bit w z) (bit w x) (bit u z) (bit u x) ∙ sym (taking-bit x u w z h))
     by false e = ap (taking x (taking x u u)) (left-alone x u w e) ∙ left-alone x (taking x u u) w e ∙ sym (left-alone x u w e)
 
@@ -98,12 +99,12 @@ updated-twice n x y words words₁ words₂ a b (ReachAdded.updated e d) (ReachA
     let hx : x < wordBits = omega (arith, q .first-below, q .points .most) in (
       refl,
       same-words n words₂ words₁ (g .length-same)
-      (λ i h.
-      g .first i h
-      ∙ ap₂ (taking x) (d .first y (q .second-below)) (d .first i h)
-      ∙ word-twice x (wordAt words y) (wordAt words i) hx
-      ∙ sym (d .first i h))
-      (g .beyond-same),
+          (λ i h.
+          g .first i h
+          ∙ ap₂ (taking x) (d .first y (q .second-below)) (d .first i h)
+          ∙ word-twice x (wordAt words y) (wordAt words i) hx
+          ∙ sym (d .first i h))
+          (g .beyond-same),
     )
 
 -- ---- two updates in either order
@@ -151,8 +152,10 @@ module _ (x x′ u v w : ℕ) (hx : x < wordBits) (hx′ : x′ < wordBits) wher
   either-order = by (bit w x) refl (bit w x′) refl
     where
       by : (b : Bool) → bit w x ≡ b → (c : Bool) → bit w x′ ≡ c → first-x ≡ second-x
-      by true e c f = told (taking-lt x′ (taking x u v) (taking x u w) (made x u w e)) (made x (taking x′ v u) (taking x′ v w) (kept x′ v w x hx e))
-      by false e true f = told (made x′ (taking x u v) (taking x u w) (kept x u w x′ hx′ f)) (taking-lt x (taking x′ v u) (taking x′ v w) (made x′ v w f))
+      by true e c f =
+          told (taking-lt x′ (taking x u v) (taking x u w) (made x u w e)) (made x (taking x′ v u) (taking x′ v w) (kept x′ v w x hx e))
+      by false e true f =
+          told (made x′ (taking x u v) (taking x u w) (kept x u w x′ hx′ f)) (taking-lt x (taking x′ v u) (taking x′ v w) (made x′ v w f))
       by false e false f =
           ap (taking x′ (taking x u v)) (left-alone x u w e)
           ∙ left-alone x′ (taking x u v) w f
