@@ -4,3 +4,7 @@ mod Counts
 mod Asked
 mod Written
 mod Handed
+mod OneAnswer
+mod Built
+mod Updated
+mod AfterAdd
