@@ -28,8 +28,9 @@ use Rattle.words.specs.Sets.{Set, wordBits, wordOf}
 use Rattle.words.specs.Calls.{askedAnswer, bounds, wordAt, taking, Reached}
 use Rattle.words.specs.Laws.{UpdatedAsAfresh}
 use Rattle.words.proofs.Bits.{same-bits, word-lt}
+use Rattle.words.proofs.Asked.{done-room}
 use Rattle.words.proofs.OneAnswer.{not-done}
-use Rattle.words.proofs.Built.{done-room, Build, reached-done, word-bits, built-word, built-asked}
+use Rattle.words.proofs.Built.{Build, reached-done, word-bits, built-word, built-asked}
 use Rattle.words.proofs.Built.{Numbered, numbered, bounds-number, number-bounds}
 use Rattle.words.proofs.Updated.{Update, update-done, update-answer, taking-lt, taking-bit}
 
@@ -138,7 +139,7 @@ module _ {s : List ℕ} {m : Limit} {strict weak strict′ weak′ : List ℤ} (
     afresh : (i : ℕ) → i < points → taking (m .from) (wordAt words₁ (m .to)) (wordAt words₁ i) ≡ wordOf points (bounds points strict′ i)
     afresh i h =
         ap₂ (taking (m .from)) (built-word b (m .to) (limit-ranged .to)) (built-word b i h)
-        ∙ taking-word points (m .from) (bounds points strict i) (bounds points strict (m .to)) (bounds points strict′ i) (b .room .points .most)
+        ∙ taking-word points (m .from) (bounds points strict i) (bounds points strict (m .to)) (bounds points strict′ i) (b .room .few)
         (limit-ranged .from) (λ z hz. new-bounds i z h hz)
 
     -- so the updated words are built from the new table
@@ -146,9 +147,10 @@ module _ {s : List ℕ} {m : Limit} {strict weak strict′ weak′ : List ℤ} (
     rebuilt u =
         Reached.built
         (done-room (record {
-          points = b .room .points;
-          cells-room = rw (d .written .strict-kept .length-same) (b .room .cells-room);
-          words-room = u .asked .words-room;
+          some = b .room .some;
+          few = b .room .few;
+          table = rw (d .written .strict-kept .length-same) (b .room .table);
+          room = u .asked .room;
         }))
         (record {
           length-same = u .words-are .length-same;

@@ -1,25 +1,23 @@
 -- What comes before the work, and what the calls answer by it: laws that the walks through the code cite. Assumes nothing.
-use mathlib.Core.Path.{_≡_, refl, sym, ap, subst, _∙_}
+use mathlib.Core.Path.{_≡_, refl, sym, _∙_}
 use mathlib.Core.Logic.{_≢_}
-use mathlib.Core.Bool.{Bool, true, false, false≢true, true≢false, cond, not, _&&_}
+use mathlib.Core.Bool.{Bool, true, false, false≢true, true≢false, not, _&&_}
 use mathlib.Core.List.{List}
 use Prim.Native.Nat.{ℕ, _*_, _^_, _≤_, _<_}
-use native.Mathlib.Omega.{arith}
 use lib.Dec.{eqb, leb, ltb}
 use lib.ListN.{length}
-use lib.IntN.{ℤ}
 use lib.Bits.{bitAnd}
-use borrow.Author.Tests.{not-true, not-false, ltb-true, leb-true, le-leb, lt-leb}
+use borrow.Author.Tests.{not-true, not-false, ltb-true, leb-true, lt-ltb, le-leb, lt-leb}
 use Rattle.rules.specs.declared.Answer.{Answer}
 use Rattle.rules.specs.declared.Answer.the-variants.{Done, BadPoints, ShortRoom}
 use Rattle.rules.specs.Plan.{version1}
 use Rattle.rules.specs.Answers.{codeOf}
 use Rattle.answers.specs.Order.{_then_, unless}
-use Rattle.answers.proofs.CodeZero.{code-zero, then-done, unless-done}
+use Rattle.answers.proofs.CodeZero.{then-done, done-then, unless-done, done-unless}
+use Rattle.plan.proofs.TestsMade.{both, and}
 use Rattle.words.specs.declared.Extent.{Extent}
-use Rattle.words.specs.declared.Common.{Common}
-use Rattle.words.specs.Sets.{Numbers, wordBits, bit, wordOf}
-use Rattle.words.specs.Calls.{inRange, roomAnswer, askedAnswer, bounds, wordAt, FirstWords, Reached, BoundedIs, BothIs, taking, ReachAdded}
+use Rattle.words.specs.Sets.{Numbers, wordBits, bit}
+use Rattle.words.specs.Calls.{inRange, roomAnswer, askedAnswer, wordAt, BoundedIs, BothIs}
 use Rattle.words.proofs.Bits.{and-word}
 
 -- ---- the tests before a call
@@ -51,9 +49,9 @@ module _ (n x y words : ℕ) where
       refusing (leb n words) ShortRoom (lt-leb n words k)
       ∙ then-second (inRange n && ltb x n && ltb y n) BadPoints (unless (leb n words) ShortRoom) h
 
-  pub asked-done : not (leb 1 n && leb n 64 && ltb x n && ltb y n) ≡ false → n ≤ words → Done ≡ askedAnswer n x y words
+  pub asked-through : not (leb 1 n && leb n 64 && ltb x n && ltb y n) ≡ false → n ≤ words → Done ≡ askedAnswer n x y words
   unfolding askedAnswer version1
-  asked-done h k =
+  asked-through h k =
       passing (leb n words) ShortRoom (le-leb n words k)
       ∙ then-second (inRange n && ltb x n && ltb y n) BadPoints (unless (leb n words) ShortRoom) h
 
@@ -69,27 +67,19 @@ module _ (n cells words : ℕ) where
       refusing (leb (n * n) cells && leb n words) ShortRoom (not-true (leb (n * n) cells && leb n words) k)
       ∙ then-second (inRange n) BadPoints (unless (leb (n * n) cells && leb n words) ShortRoom) h
 
-  pub room-enough : not (leb 1 n && leb n 64) ≡ false → not (leb (n * n) cells && leb n words) ≡ false → Done ≡ roomAnswer n cells words
+  pub room-through : not (leb 1 n && leb n 64) ≡ false → not (leb (n * n) cells && leb n words) ≡ false → Done ≡ roomAnswer n cells words
   unfolding roomAnswer version1
-  room-enough h k =
+  room-through h k =
       passing (leb (n * n) cells && leb n words) ShortRoom (not-false (leb (n * n) cells && leb n words) k)
       ∙ then-second (inRange n) BadPoints (unless (leb (n * n) cells && leb n words) ShortRoom) h
 
 -- a number of points that was let through is small
 pub points-few : (n : ℕ) → not (leb 1 n && leb n 64) ≡ false → n ≤ 64
-points-few n h = by (leb 1 n) (leb n 64) refl (not-false _ h)
-  where
-    by : (a b : Bool) → leb n 64 ≡ b → (a && b) ≡ true → n ≤ 64
-    by true true e k = leb-true n 64 e
-    by true false e k = absurd (false≢true k)
-    by false b e k = absurd (false≢true k)
+points-few n h = leb-true n 64 (both (leb 1 n) (leb n 64) (not-false (leb 1 n && leb n 64) h) .1)
 
 -- ---- what they let through
 
-both-true : (a b : Bool) → (a && b) ≡ true → (a ≡ true) × (b ≡ true)
-both-true true b e = (refl, e)
-both-true false b e = absurd (false≢true e)
-
+-- a call about two points is worked out exactly where n is in range, the points are below n and there are n words
 pub record Asked (n x y words : ℕ) : Type 0 where
   pub some : 1 ≤ n
   pub few : n ≤ 64
@@ -97,48 +87,57 @@ pub record Asked (n x y words : ℕ) : Type 0 where
   pub second : y < n
   pub room : n ≤ words
 
-pub asked : (n x y words : ℕ) → askedAnswer n x y words ≡ Done → Asked n x y words
-unfolding askedAnswer version1
-asked n x y words e =
-    let t = then-done (unless (inRange n && ltb x n && ltb y n) BadPoints) (unless (leb n words) ShortRoom) e in
-    let p = both-true (inRange n && ltb x n) (ltb y n) (unless-done _ BadPoints refl (t .0)) in
-    let q = both-true (inRange n) (ltb x n) (p .0) in
-    let r = both-true (leb 1 n) (leb n 64) (q .0) in
-    record {
-      some = leb-true 1 n (r .0);
-      few = leb-true n 64 (r .1);
-      first = ltb-true x n (q .1);
-      second = ltb-true y n (p .1);
-      room = leb-true n words (unless-done _ ShortRoom refl (t .1));
-    }
+module _ {n x y words : ℕ} where
+  pub asked-done : askedAnswer n x y words ≡ Done → Asked n x y words
+  unfolding askedAnswer version1
+  asked-done e =
+      let t = then-done (unless (inRange n && ltb x n && ltb y n) BadPoints) (unless (leb n words) ShortRoom) e in
+      let p = both (inRange n && ltb x n) (ltb y n) (unless-done (inRange n && ltb x n && ltb y n) BadPoints refl (t .0)) in
+      let q = both (inRange n) (ltb x n) (p .0) in
+      let r = both (leb 1 n) (leb n 64) (q .0) in
+      record {
+        some = leb-true 1 n (r .0);
+        few = leb-true n 64 (r .1);
+        first = ltb-true x n (q .1);
+        second = ltb-true y n (p .1);
+        room = leb-true n words (unless-done (leb n words) ShortRoom refl (t .1));
+      }
 
-pub record Roomy (n cells words : ℕ) : Type 0 where
+  pub done-asked : Asked n x y words → askedAnswer n x y words ≡ Done
+  unfolding askedAnswer version1
+  done-asked a =
+      let r : inRange n ≡ true = and (le-leb 1 n (a .some)) (le-leb n 64 (a .few)) in
+      done-then (unless (inRange n && ltb x n && ltb y n) BadPoints) (unless (leb n words) ShortRoom)
+      (done-unless (inRange n && ltb x n && ltb y n) BadPoints (and (and r (lt-ltb x n (a .first))) (lt-ltb y n (a .second))))
+      (done-unless (leb n words) ShortRoom (le-leb n words (a .room)))
+
+-- building is worked out exactly where n is in range and there are n x n cells and n words
+pub record Room (n cells words : ℕ) : Type 0 where
   pub some : 1 ≤ n
   pub few : n ≤ 64
   pub table : n * n ≤ cells
   pub room : n ≤ words
 
-pub roomy : (n cells words : ℕ) → roomAnswer n cells words ≡ Done → Roomy n cells words
-unfolding roomAnswer version1
-roomy n cells words e =
-    let t = then-done (unless (inRange n) BadPoints) (unless (leb (n * n) cells && leb n words) ShortRoom) e in
-    let p = both-true (leb 1 n) (leb n 64) (unless-done _ BadPoints refl (t .0)) in
-    let q = both-true (leb (n * n) cells) (leb n words) (unless-done _ ShortRoom refl (t .1)) in
-    record {
-      some = leb-true 1 n (p .0);
-      few = leb-true n 64 (p .1);
-      table = leb-true (n * n) cells (q .0);
-      room = leb-true n words (q .1);
-    }
+module _ {n cells words : ℕ} where
+  pub room-done : roomAnswer n cells words ≡ Done → Room n cells words
+  unfolding roomAnswer version1
+  room-done e =
+      let t = then-done (unless (inRange n) BadPoints) (unless (leb (n * n) cells && leb n words) ShortRoom) e in
+      let p = both (leb 1 n) (leb n 64) (unless-done (inRange n) BadPoints refl (t .0)) in
+      let q = both (leb (n * n) cells) (leb n words) (unless-done (leb (n * n) cells && leb n words) ShortRoom refl (t .1)) in
+      record {
+        some = leb-true 1 n (p .0);
+        few = leb-true n 64 (p .1);
+        table = leb-true (n * n) cells (q .0);
+        room = leb-true n words (q .1);
+      }
 
--- ---- an answer that was looked at
-
-module _ {a : Answer} {t : Bool} (e : t ≡ eqb (codeOf a) 0) where
-  pub was-refused : not t ≡ true → a ≢ Done
-  was-refused h d = true≢false (sym (e ∙ ap (λ (b : Answer). eqb (codeOf b) 0) d) ∙ not-true t h)
-
-  pub was-accepted : not t ≡ false → a ≡ Done
-  was-accepted h = code-zero a (sym e ∙ not-false t h)
+  pub done-room : Room n cells words → roomAnswer n cells words ≡ Done
+  unfolding roomAnswer version1
+  done-room r =
+      done-then (unless (inRange n) BadPoints) (unless (leb (n * n) cells && leb n words) ShortRoom)
+      (done-unless (inRange n) BadPoints (and (le-leb 1 n (r .some)) (le-leb n 64 (r .few))))
+      (done-unless (leb (n * n) cells && leb n words) ShortRoom (and (le-leb (n * n) cells (r .table)) (le-leb n words (r .room))))
 
 -- ---- what a call about points answers
 

@@ -8,9 +8,8 @@ use native.Mathlib.Omega.{arith}
 use lib.Dec.{eqb}
 use lib.Arith.{lt-one, digits-div, digits-mod}
 use lib.Pow.{pow-mono, shr-shr, shr-lt}
-use lib.Bits.{bitAnd, bitOr, and-shr, and-mod, or-shr, or-mod, and-lt, or-lt, or-shifted-r}
-use borrow.Author.Tests.{eqb-true, eqb-false}
-use Rattle.words.specs.Sets.{Set, numberOf, bit, wordOf}
+use lib.Bits.{bitAnd, bitOr, and-shr, and-mod, or-shr, or-mod, and-lt, or-lt}
+use Rattle.words.specs.Sets.{Set, bit, wordOf}
 
 -- ---- digits
 

@@ -1,106 +1,36 @@
--- What an answer of Done says of a call's numbers. And words that Reach built: their bits are where the strict table has numbers, so what the
+-- Words that Reach built: their bits are where the strict table has numbers, so what the
 -- calls about points answer of them is what the table says, and after Judge it is where the plan's given edges lead. Assumes nothing.
 use mathlib.Core.Path.{_≡_, refl, sym, ap, ap₂, subst, _∙_}
 use mathlib.Core.Logic.{_≢_}
-use mathlib.Core.Bool.{Bool, true, not, false≢true, cond, _&&_, and-false}
+use mathlib.Core.Bool.{Bool, true, not, false≢true, _&&_, and-false}
 use mathlib.Core.List.{List}
-use Prim.Native.Nat.{ℕ, zero, suc, _+_, _*_, _≤_, _<_}
+use Prim.Native.Nat.{ℕ, _≤_, _<_}
 use native.Mathlib.Omega.{arith}
 use native.Mathlib.Decide.{decLe}
-use lib.Dec.{leb, ltb}
+use lib.Dec.{ltb}
 use lib.ListN.{length}
 use lib.IntN.{ℤ}
-use borrow.Author.Tests.{ltb-true, leb-true, lt-ltb, le-ltb, le-leb}
+use borrow.Author.Tests.{lt-ltb, le-ltb}
 use Rattle.rules.specs.declared.Answer.{Answer}
-use Rattle.rules.specs.declared.Answer.the-variants.{Done, BadPoints, ShortRoom, NotControllable}
+use Rattle.rules.specs.declared.Answer.the-variants.{Done, ShortRoom, NotControllable}
 use Rattle.rules.specs.Plan.{version1}
 use Rattle.rules.specs.Cells.{Cell, mark, num, tableOf}
 use Rattle.rules.specs.Calls.{Judged, Written}
 use Rattle.rules.proofs.Points.{Pointed, in-range-pointed}
 use Rattle.rules.proofs.Leading.{Led, number-led, led-number}
-use Rattle.answers.specs.Order.{unless}
-use Rattle.answers.proofs.CodeZero.{then-done, done-then, unless-done, done-unless}
 use Rattle.cell.specs.Steps.{isMark}
 use Rattle.plan.specs.Layout.{planOf}
 use Rattle.plan.specs.File.{fileAnswer}
-use Rattle.plan.proofs.TestsMade.{both, and}
 use Rattle.plan.proofs.SoundFile.{good}
 use Rattle.words.specs.Sets.{Set, wordBits, numberOf, Lowest, Highest, Numbers, bit, wordOf}
-use Rattle.words.specs.Calls.{inRange, roomAnswer, askedAnswer, bounds, wordAt, FirstWords, Reached}
+use Rattle.words.specs.Calls.{askedAnswer, bounds, wordAt, FirstWords, Reached}
 use Rattle.words.specs.Laws.{BitsOfBuilt, BoundedOfBuilt, BothOfBuilt, Leads, BitsOfJudged}
 use Rattle.words.proofs.Bits.{no-bit, word-lt, word-bit}
+use Rattle.words.proofs.Counts.{same-number}
+use Rattle.words.proofs.Asked.{Room, room-done, done-asked}
 use Rattle.words.proofs.OneAnswer.{clash, not-done, number-below}
 
--- ---- what an answer of Done says
-
--- "n 1 to 64"
-pub record Points (n : ℕ) : Type 0 where
-  pub some : 1 ≤ n
-  pub most : n ≤ wordBits
-
-in-range : (n : ℕ) → inRange n ≡ true → Points n
-unfolding version1
-in-range n e =
-    let p = both (leb 1 n) (leb n (version1 .points)) e in
-    record { some = leb-true 1 n (p .0); most = leb-true n wordBits (p .1) }
-
-range-in : {n : ℕ} → Points n → inRange n ≡ true
-unfolding version1
-range-in {n} p = and (le-leb 1 n (p .some)) (le-leb n wordBits (p .most))
-
--- there is room for a table and its words
-pub record Room (n cells words : ℕ) : Type 0 where
-  pub points : Points n
-  pub cells-room : n * n ≤ cells
-  pub words-room : n ≤ words
-
-pub room-done : (n cells words : ℕ) → roomAnswer n cells words ≡ Done → Room n cells words
-unfolding roomAnswer
-room-done n cells words e =
-    let enough : Bool = leb (n * n) cells && leb n words in
-    let p = then-done (unless (inRange n) BadPoints) (unless enough ShortRoom) e in
-    let q = both (leb (n * n) cells) (leb n words) (unless-done enough ShortRoom refl (p .1)) in
-    record {
-      points = in-range n (unless-done (inRange n) BadPoints refl (p .0));
-      cells-room = leb-true (n * n) cells (q .0);
-      words-room = leb-true n words (q .1);
-    }
-
-pub done-room : {n cells words : ℕ} → Room n cells words → roomAnswer n cells words ≡ Done
-unfolding roomAnswer
-done-room {n} {cells} {words} r =
-    let enough : Bool = leb (n * n) cells && leb n words in
-    done-then (unless (inRange n) BadPoints) (unless enough ShortRoom) (done-unless (inRange n) BadPoints (range-in (r .points)))
-    (done-unless enough ShortRoom (and (le-leb (n * n) cells (r .cells-room)) (le-leb n words (r .words-room))))
-
--- two points are asked about, and there is room for the words
-pub record Asked (n x y words : ℕ) : Type 0 where
-  pub points : Points n
-  pub first-below : x < n
-  pub second-below : y < n
-  pub words-room : n ≤ words
-
-pub asked-done : (n x y words : ℕ) → askedAnswer n x y words ≡ Done → Asked n x y words
-unfolding askedAnswer
-asked-done n x y words e =
-    let named : Bool = inRange n && ltb x n && ltb y n in
-    let p = then-done (unless named BadPoints) (unless (leb n words) ShortRoom) e in
-    let q = both (inRange n && ltb x n) (ltb y n) (unless-done named BadPoints refl (p .0)) in
-    let s = both (inRange n) (ltb x n) (q .0) in
-    record {
-      points = in-range n (s .0);
-      first-below = ltb-true x n (s .1);
-      second-below = ltb-true y n (q .1);
-      words-room = leb-true n words (unless-done (leb n words) ShortRoom refl (p .1));
-    }
-
-pub done-asked : {n x y words : ℕ} → Asked n x y words → askedAnswer n x y words ≡ Done
-unfolding askedAnswer
-done-asked {n} {x} {y} {words} a =
-    let named : Bool = inRange n && ltb x n && ltb y n in
-    done-then (unless named BadPoints) (unless (leb n words) ShortRoom)
-    (done-unless named BadPoints (and (and (range-in (a .points)) (lt-ltb x n (a .first-below))) (lt-ltb y n (a .second-below))))
-    (done-unless (leb n words) ShortRoom (le-leb n words (a .words-room)))
+-- ---- the bits
 
 -- what Reach did where it answers Done
 pub record Build (n : ℕ) (strict : List ℤ) (words words′ : List ℕ) : Type 0 where
@@ -110,9 +40,7 @@ pub record Build (n : ℕ) (strict : List ℤ) (words words′ : List ℕ) : Typ
 pub reached-done : {n : ℕ} {strict : List ℤ} {words words′ : List ℕ} {a : Answer} → Reached n strict words a words′ → a ≡ Done
     → Build n strict words words′
 reached-done (Reached.refused e d) i = absurd (d i)
-reached-done {n} {strict} {words} (Reached.built e f) i = record { room = room-done n (length strict) (length words) e; words-are = f }
-
--- ---- the bits
+reached-done {n} {strict} {words} (Reached.built e f) i = record { room = room-done e; words-are = f }
 
 -- the word of a set of points below n has the bits of those
 pub word-bits : (n : ℕ) (s : Set) (y : ℕ) → bit (wordOf n s) y ≡ (ltb y n && s y)
@@ -125,12 +53,6 @@ word-bits n s y = by (decLe n y)
         word-bit n s y l ∙ ap (λ (t : Bool). t && s y) (sym (lt-ltb y n l))
 
 -- ---- the numbers
-
--- two sets with the same points have as many
-same-number : (k : ℕ) (s t : Set) → ((y : ℕ) → y < k → s y ≡ t y) → numberOf k s ≡ numberOf k t
-unfolding numberOf
-same-number zero s t e = refl
-same-number (suc y) s t e = ap₂ (λ (b : Bool) (m : ℕ). cond b 1 0 + m) (e y (omega arith)) (same-number y s t (λ z h. e z (omega arith)))
 
 -- the numbers of a word of n bits are those of the points below n
 module _ (n : ℕ) (s : Set) (few : n ≤ wordBits) where
@@ -179,10 +101,11 @@ pub built-asked : {n : ℕ} {strict : List ℤ} {words words′ : List ℕ} → 
     → askedAnswer n x y (length words′) ≡ Done
 built-asked b hx hy =
     done-asked (record {
-      points = b .room .points;
-      first-below = hx;
-      second-below = hy;
-      words-room = rw (b .words-are .length-same) (b .room .words-room);
+      some = b .room .some;
+      few = b .room .few;
+      first = hx;
+      second = hy;
+      room = rw (b .words-are .length-same) (b .room .room);
     })
 
 pub bits-of-built : BitsOfBuilt
@@ -194,7 +117,7 @@ bounded-of-built n strict words words′ x r g h a =
     let b : Build n strict words words′ = reached-done g refl in
     let d : r .answer ≡ Done = a .answer-is ∙ built-asked b h h in (
       d,
-      numbers-points n (bounds n strict x) (b .room .points .most)
+      numbers-points n (bounds n strict x) (b .room .few)
           (subst (λ (w : ℕ). Numbers wordBits (bit w) (r .number) (r .lowest) (r .highest)) (built-word b x h) (a .numbers d)),
     )
 
@@ -218,7 +141,7 @@ both-of-built n strict words words′ x y r g hx hy a =
       λ z.
           ap (λ (w : ℕ). bit w z) (a .word-is d)
           ∙ ap₂ (λ (u v : ℕ). bit (wordOf wordBits (λ y. bit u y && bit v y)) z) (built-word b x hx) (built-word b y hy)
-          ∙ both-bits (bounds n strict x) (bounds n strict y) (b .room .points .most) z,
+          ∙ both-bits (bounds n strict x) (bounds n strict y) (b .room .few) z,
     )
 
 -- ---- after Judge

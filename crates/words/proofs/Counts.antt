@@ -1,15 +1,15 @@
 -- What the counts of a word's bits say of the set that it holds: ones, trailing zeros and leading zeros are its number, its lowest and its highest point.
 -- Assumes nothing.
 use mathlib.Core.Path.{_≡_, refl, sym, ap, ap₂, subst, _∙_}
-use mathlib.Core.Logic.{_⊎_, inl, inr, ⊎-elim}
+use mathlib.Core.Logic.{_⊎_, ⊎-elim}
 use mathlib.Core.Bool.{Bool, true, false, cond}
-use Prim.Native.Nat.{ℕ, zero, suc, _+_, _-_, _*_, _/_, _%_, _^_, _≤_, _<_}
+use Prim.Native.Nat.{ℕ, zero, suc, _+_, _-_, _/_, _%_, _^_, _≤_, _<_}
 use native.Mathlib.Nat.{zero-lt-suc, not-suc-le-zero, pow-suc, div-eq-of-lt-le}
 use native.Mathlib.Omega.{arith}
 use lib.Dec.{eqb}
 use lib.Arith.{lt-one}
 use lib.Count.{ones, ones-step, trailingZeros, leadingZeros, leading-top, under}
-use Rattle.words.specs.Sets.{Set, wordBits, numberOf, Lowest, Highest, Numbers, bit}
+use Rattle.words.specs.Sets.{Set, wordBits, numberOf, Lowest, Highest, bit}
 use Rattle.words.specs.Sets as sets
 use Rattle.words.proofs.Bits.{digit, bit-zero, bit-suc, half-lt, no-bit, after}
 

@@ -1,22 +1,23 @@
 -- What C gets in a lent slice: laws that the walks through `handing` cite. Assumes nothing.
-use mathlib.Core.Path.{_≡_, refl, sym, ap, subst, _∙_}
-use mathlib.Core.Logic.{_≢_}
-use mathlib.Core.Bool.{Bool, true, false, true≢false, not}
+use mathlib.Core.Path.{_≡_, refl, sym, subst, _∙_}
+use mathlib.Core.Bool.{Bool, true, false, not}
 use mathlib.Core.List.{List}
 use Prim.Native.Nat.{ℕ, _≤_, _<_}
 use native.Mathlib.Omega.{arith}
 use lib.Dec.{eqb, leb}
 use lib.ListN.{length, set, length-set}
-use borrow.Author.Tests.{not-true, lt-leb, le-leb}
+use borrow.Author.Tests.{lt-leb, le-leb}
 use Rattle.rules.specs.declared.Answer.{Answer}
 use Rattle.rules.specs.declared.Answer.the-variants.{Done, ShortRoom}
 use Rattle.rules.specs.Answers.{codeOf}
 use Rattle.answers.specs.Order.{_then_, unless}
+use Rattle.plan.proofs.TestsMade.{failed}
+use Rattle.plan.proofs.SoundFile.{is-accepted, not-accepted}
 use Rattle.words.specs.declared.Extent.{Extent}
 use Rattle.words.specs.declared.Common.{Common}
-use Rattle.words.specs.Calls.{askedAnswer, FirstWords, BoundedIs, BothIs}
-use Rattle.words.specs.Handed.{intoAnswer, three, BoundedInto, BothInto}
-use Rattle.words.proofs.Asked.{was-refused, was-accepted}
+use Rattle.words.specs.Calls.{askedAnswer, BoundedIs, BothIs}
+use Rattle.words.specs.Handed.{intoAnswer, BoundedInto, BothInto}
+use Rattle.words.proofs.OneAnswer.{not-done}
 use Rattle.words.proofs.Written.{first-none, first-more}
 
 -- the answer for the points, then room to write to
@@ -37,39 +38,31 @@ module _ (n x y words cells out : ℕ) {a : Answer} (e : a ≡ askedAnswer n x y
 pub kept-room : (out : List ℕ) (i v j : ℕ) → j < length out → j < length (set out i v)
 kept-room out i v j h = omega (arith, length-set out i v)
 
--- 9 is a refusal
-short-refuses : ShortRoom ≢ Done
-short-refuses e = true≢false (sym (ap (λ (b : Answer). eqb (codeOf b) 0) e))
-
--- an answer that was looked at, as code
-refusal : (a : Answer) {t : Bool} → t ≡ eqb (codeOf a) 0 → not t ≡ true → eqb (codeOf a) 0 ≡ false
-refusal a {t} e h = sym e ∙ not-true t h
-
 module _ (n x : ℕ) (words out : List ℕ) {r : Extent} {t : Bool} (b : BoundedIs n words x r) (e : t ≡ eqb (codeOf (r .answer)) 0) where
   pub bounded-into-refused : not t ≡ true → BoundedInto n words x out (r .answer) out
   bounded-into-refused h =
-      BoundedInto.refused (into-refused n x x (length words) 3 (length out) (b .answer-is) (refusal (r .answer) e h)) (was-refused e h)
+      BoundedInto.refused (into-refused n x x (length words) 3 (length out) (b .answer-is) (failed e h)) (not-accepted (r .answer) refl e h)
 
   pub bounded-into-short : not t ≡ false → length out < 3 → BoundedInto n words x out ShortRoom out
   bounded-into-short h k =
-      BoundedInto.refused (into-short n x x (length words) 3 (length out) (b .answer-is) (was-accepted e h) k) short-refuses
+      BoundedInto.refused (into-short n x x (length words) 3 (length out) (b .answer-is) (is-accepted (r .answer) refl e h) k) (not-done ShortRoom refl)
 
   pub bounded-into-handed : not t ≡ false → 3 ≤ length out
       → BoundedInto n words x out Done (set (set (set out 0 (r .number)) 1 (r .lowest)) 2 (r .highest))
   bounded-into-handed h k =
-      BoundedInto.handed (into-done n x x (length words) 3 (length out) (b .answer-is) (was-accepted e h) k) (b .numbers (was-accepted e h))
+      BoundedInto.handed (into-done n x x (length words) 3 (length out) (b .answer-is) (is-accepted (r .answer) refl e h) k) (b .numbers (is-accepted (r .answer) refl e h))
       (first-more (r .highest) (first-more (r .lowest) (first-more (r .number) first-none (omega arith) refl) (omega arith) refl) (omega arith) refl)
 
 module _ (n x y : ℕ) (words out : List ℕ) {r : Common} {t : Bool} (b : BothIs n words x y r) (e : t ≡ eqb (codeOf (r .answer)) 0) where
   pub both-into-refused : not t ≡ true → BothInto n words x y out (r .answer) out
   both-into-refused h =
-      BothInto.refused (into-refused n x y (length words) 1 (length out) (b .answer-is) (refusal (r .answer) e h)) (was-refused e h)
+      BothInto.refused (into-refused n x y (length words) 1 (length out) (b .answer-is) (failed e h)) (not-accepted (r .answer) refl e h)
 
   pub both-into-short : not t ≡ false → length out < 1 → BothInto n words x y out ShortRoom out
   both-into-short h k =
-      BothInto.refused (into-short n x y (length words) 1 (length out) (b .answer-is) (was-accepted e h) k) short-refuses
+      BothInto.refused (into-short n x y (length words) 1 (length out) (b .answer-is) (is-accepted (r .answer) refl e h) k) (not-done ShortRoom refl)
 
   pub both-into-handed : not t ≡ false → 1 ≤ length out → BothInto n words x y out Done (set out 0 (r .word))
   both-into-handed h k =
-      BothInto.handed (into-done n x y (length words) 1 (length out) (b .answer-is) (was-accepted e h) k)
-      (first-more (r .word) first-none k (b .word-is (was-accepted e h)))
+      BothInto.handed (into-done n x y (length words) 1 (length out) (b .answer-is) (is-accepted (r .answer) refl e h) k)
+      (first-more (r .word) first-none k (b .word-is (is-accepted (r .answer) refl e h)))

@@ -1,6 +1,6 @@
 -- One answer: two answers that meet a call's statement are equal, in code, number and every lent word. What a set's numbers are is settled by
 -- the set, and of a word of 0 they are those of no point. Assumes nothing.
-use mathlib.Core.Path.{_≡_, refl, sym, ap, _∙_}
+use mathlib.Core.Path.{_≡_, refl, sym, ap, subst, _∙_}
 use mathlib.Core.Logic.{_≢_, _⊎_, inl, inr}
 use mathlib.Core.Bool.{Bool, true, false, true≢false}
 use mathlib.Core.List.{List}
@@ -17,7 +17,8 @@ use Rattle.rules.specs.declared.Answer.the-variants.{Done}
 use Rattle.answers.proofs.CodeZero.{code-zero}
 use Rattle.words.specs.Sets.{Set, wordBits, numberOf, Lowest, Highest, Numbers, bit}
 use Rattle.words.specs.Calls.{wordAt, FirstWords, Reached, ReachAdded}
-use Rattle.words.specs.Laws.{WordOfZero, ReachedOnce, BoundedOnce, BothOnce, ReachAddedOnce}
+use Rattle.words.specs.Handed.{three, BoundedInto, BothInto}
+use Rattle.words.specs.Laws.{WordOfZero, ReachedOnce, BoundedOnce, BothOnce, ReachAddedOnce, BoundedIntoOnce, BothIntoOnce}
 use Rattle.words.proofs.Bits.{no-bit}
 
 -- no test both holds and fails
@@ -151,3 +152,20 @@ both-once n words x y r q a b = by (done-or-not (r .answer))
     by : Dec (r .answer ≡ Done) → r ≡ q
     by (yes d) = one (a .word-is d ∙ sym (b .word-is (sym same ∙ d)))
     by (no d) = one (a .refused d ∙ sym (b .refused (λ e. d (same ∙ e))))
+
+-- ---- what C gets in a lent slice
+
+pub bounded-into-once : BoundedIntoOnce
+bounded-into-once n words x out a b out₁ out₂ (BoundedInto.refused e d) (BoundedInto.refused f g) = (e ∙ sym f, refl)
+bounded-into-once n words x out a b out₁ out₂ (BoundedInto.refused e d) (BoundedInto.handed f m g) = absurd (d (e ∙ f))
+bounded-into-once n words x out a b out₁ out₂ (BoundedInto.handed e k d) (BoundedInto.refused f g) = absurd (g (f ∙ e))
+bounded-into-once n words x out a b out₁ out₂ (BoundedInto.handed {number = u} {low = l} {high = h} e k d) (BoundedInto.handed {number = u′} {low = l′} {high = h′} f m g) =
+    let q = numbers-once k m in
+    let same : three u l h ≡ three u′ l′ h′ = λ i. three (q .0 i) (q .1 i) (q .2 i) in
+    (refl, first-words-once (subst (λ (new : ℕ → ℕ). FirstWords 3 new out out₁) same d) g)
+
+pub both-into-once : BothIntoOnce
+both-into-once n words x y out a b out₁ out₂ (BothInto.refused e d) (BothInto.refused f g) = (e ∙ sym f, refl)
+both-into-once n words x y out a b out₁ out₂ (BothInto.refused e d) (BothInto.handed f g) = absurd (d (e ∙ f))
+both-into-once n words x y out a b out₁ out₂ (BothInto.handed e d) (BothInto.refused f g) = absurd (g (f ∙ e))
+both-into-once n words x y out a b out₁ out₂ (BothInto.handed e d) (BothInto.handed f g) = (refl, first-words-once d g)

@@ -14,7 +14,7 @@ use Rattle.words.specs.Calls.{askedAnswer, wordAt, taking, FirstWords, R
 use Rattle.words.specs.Laws.{UpdatedTwice, UpdatedInAnyOrder}
 use Rattle.words.proofs.Bits.{same-bits, word-lt, word-bit}
 use Rattle.words.proofs.OneAnswer.{same-words}
-use Rattle.words.proofs.Built.{Asked, asked-done}
+use Rattle.words.proofs.Asked.{Asked, asked-done}
 
 -- ---- what Update did where it answers Done
 
@@ -24,7 +24,7 @@ pub record Update (n x y : ℕ) (words words′ : List ℕ) : Type 0 where
 
 pub update-done : {n x y : ℕ} {words words′ : List ℕ} {a : Answer} → ReachAdded n x y words a words′ → a ≡ Done → Update n x y words words′
 update-done (ReachAdded.refused e d) i = absurd (d i)
-update-done {n} {x} {y} {words} (ReachAdded.updated e f) i = record { asked = asked-done n x y (length words) e; words-are = f }
+update-done {n} {x} {y} {words} (ReachAdded.updated e f) i = record { asked = asked-done e; words-are = f }
 
 -- what it answers, whether or not it is Done
 pub update-answer : {n x y : ℕ} {words words′ : List ℕ} {a : Answer} → ReachAdded n x y words a words′ → a ≡ askedAnswer n x y (length words)
@@ -95,13 +95,13 @@ updated-twice n x y words words₁ words₂ a b (ReachAdded.refused e d) (ReachA
 updated-twice n x y words words₁ words₂ a b (ReachAdded.updated e d) (ReachAdded.refused f g) =
     absurd (g (f ∙ ap (askedAnswer n x y) (d .length-same) ∙ e))
 updated-twice n x y words words₁ words₂ a b (ReachAdded.updated e d) (ReachAdded.updated f g) =
-    let q : Asked n x y (length words) = asked-done n x y (length words) e in
-    let hx : x < wordBits = omega (arith, q .first-below, q .points .most) in (
+    let q : Asked n x y (length words) = asked-done e in
+    let hx : x < wordBits = omega (arith, q .first, q .few) in (
       refl,
       same-words n words₂ words₁ (g .length-same)
           (λ i h.
           g .first i h
-          ∙ ap₂ (taking x) (d .first y (q .second-below)) (d .first i h)
+          ∙ ap₂ (taking x) (d .first y (q .second)) (d .first i h)
           ∙ word-twice x (wordAt words y) (wordAt words i) hx
           ∙ sym (d .first i h))
           (g .beyond-same),
@@ -168,10 +168,10 @@ updated-in-any-order n x y x′ y′ words one two one-two two-one a b c d =
     let q : Update n x′ y′ one one-two = update-done b refl in
     let r : Update n x′ y′ words two = update-done c refl in
     let s : Update n x y two two-one = update-done d refl in
-    let hy : y < n = p .asked .second-below in
-    let hy′ : y′ < n = r .asked .second-below in
-    let hx : x < wordBits = omega (arith, p .asked .first-below, p .asked .points .most) in
-    let hx′ : x′ < wordBits = omega (arith, r .asked .first-below, r .asked .points .most) in
+    let hy : y < n = p .asked .second in
+    let hy′ : y′ < n = r .asked .second in
+    let hx : x < wordBits = omega (arith, p .asked .first, p .asked .few) in
+    let hx′ : x′ < wordBits = omega (arith, r .asked .first, r .asked .few) in
     same-words n one-two two-one
     (q .words-are .length-same ∙ p .words-are .length-same ∙ sym (r .words-are .length-same) ∙ sym (s .words-are .length-same))
     (λ i h.

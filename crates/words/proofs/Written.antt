@@ -2,11 +2,10 @@
 use mathlib.Core.Path.{_≡_, refl, sym, ap, ap₂, subst, _∙_}
 use mathlib.Core.Bool.{Bool, true, false, cond, not, _||_}
 use mathlib.Core.List.{List}
-use Prim.Native.Nat.{ℕ, zero, suc, _+_, _*_, _/_, _%_, _^_, _≤_, _<_}
+use Prim.Native.Nat.{ℕ, zero, _+_, _*_, _/_, _%_, _^_, _≤_, _<_}
 use native.Mathlib.Nat.{zero-add, mod-eq-of-lt, one-mul}
 use native.Mathlib.Numerals.{add-one}
 use native.Mathlib.Omega.{arith}
-use lib.Dec.{eqb}
 use lib.ListN.{length, getD, set, length-set}
 use lib.IntN.{ℤ, pos}
 use lib.Seq.{getD-set-same, getD-set-other}
@@ -19,7 +18,7 @@ use Rattle.rules.specs.Cells.{Cell}
 use Rattle.cell.specs.Steps.{cell32, isMark}
 use Rattle.lowering.proofs.Laws.LoopTurns.{read-cell}
 use Rattle.words.specs.Sets.{Set, wordBits, bit, wordOf}
-use Rattle.words.specs.Calls.{bounds, wordAt, FirstWords, taking}
+use Rattle.words.specs.Calls.{bounds, FirstWords, taking}
 use Rattle.words.proofs.Bits.{word-lt, or-word}
 
 -- ---- the first words, one by one

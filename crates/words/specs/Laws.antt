@@ -18,6 +18,7 @@ use Rattle.words.specs.declared.Extent.{Extent}
 use Rattle.words.specs.declared.Common.{Common}
 use Rattle.words.specs.Sets.{Numbers, wordBits, bit}
 use Rattle.words.specs.Calls.{bounds, wordAt, Reached, BoundedIs, BothIs, ReachAdded}
+use Rattle.words.specs.Handed.{BoundedInto, BothInto}
 
 -- "A word of 0 answers a count of 0, and 64 as lowest and highest."
 abbrev pub WordOfZero : Type 0
@@ -89,3 +90,14 @@ abbrev pub ReachAddedOnce : Type 0
 ReachAddedOnce =
     (n x y : ℕ) (words : List ℕ) (a b : Answer) (words₁ words₂ : List ℕ) → ReachAdded n x y words a words₁ → ReachAdded n x y words b words₂
     → (a ≡ b) × (words₁ ≡ words₂)
+
+-- The same of what C gets in a lent slice.
+abbrev pub BoundedIntoOnce : Type 0
+BoundedIntoOnce =
+    (n : ℕ) (words : List ℕ) (x : ℕ) (out : List ℕ) (a b : Answer) (out₁ out₂ : List ℕ) → BoundedInto n words x out a out₁
+    → BoundedInto n words x out b out₂ → (a ≡ b) × (out₁ ≡ out₂)
+
+abbrev pub BothIntoOnce : Type 0
+BothIntoOnce =
+    (n : ℕ) (words : List ℕ) (x y : ℕ) (out : List ℕ) (a b : Answer) (out₁ out₂ : List ℕ) → BothInto n words x y out a out₁
+    → BothInto n words x y out b out₂ → (a ≡ b) × (out₁ ≡ out₂)
