@@ -2,6 +2,7 @@
 mod faces;
 mod judging;
 mod timing;
+mod word_faces;
 
 ghost use mathlib.Core.Path.{_≡_};
 ghost use Rattle.rules.specs.Plan.{version1};
