@@ -454,7 +454,8 @@ struct Typed {
         const bool enough = words >= n;
         const Words lent = anything<Words>(random, words);
         for (std::size_t cells : {std::size_t(0), std::size_t(n) * n - 1, std::size_t(n) * n, std::size_t(n) * n + 1, std::size_t(65536)}) {
-          const Asked asked{reach, n, 0, 0, Cells(cells, 0), lent, {}, {}, 0};
+          Asked asked{reach, n, 0, 0, Cells(cells, mark), lent, {}, {}, 0};  // the mark beyond n x n cells
+          std::fill_n(asked.strict.begin(), std::min(cells, std::size_t(n) * n), 0);
           if (enough && cells >= std::size_t(n) * n) must(asked, 0, [&, n = n, full = full](Asked &left) { std::fill_n(left.words.begin(), n, full); });
           else must(asked, 9);
         }
@@ -765,7 +766,7 @@ std::string trouble(const Story &story, Kinds &kinds) {
   Tables tables = begin(story);
   Words words = kept.built(tables.strict);
   if (tables.answer != 0) {
-    if (words != Words(words.size(), 0)) kept.see("the plan is refused, and a word is not 0");
+    if (std::any_of(words.begin(), words.end(), [](std::uint64_t word) { return word != 0; })) kept.see("the plan is refused, and a word is not 0");
     kinds.count("refused plans", true);
     return kept.difference;
   }
