@@ -504,7 +504,7 @@ struct Kinds {
   bool all_came(const char *of) const {
     std::string line, never;
     for (const auto &[kind, came] : times) {
-      line += (line.empty() ? "" : ", ") + kind + " " + std::to_string(came);
+      line += (line.empty() ? "" : "; ") + kind + " " + std::to_string(came);
       if (came == 0) never += "reaching: " + std::string(of) + ": " + kind + " never came up\n";
     }
     std::printf("  %s: %s\n%s", of, line.c_str(), never.c_str());
