@@ -1,6 +1,6 @@
 // How long Judge, Check, Add and Write take, on the same plans in one run: the library (where linked), the sweep, the library's own way and a writer
 // in plain C++, source document 001's RUL- algorithm for the verdict alone and with the two tables that a post would still need, and Boost's
-// Floyd-Warshall on plans without links.
+// Floyd-Warshall on plans without links. And reach words: the update after Add beside building them afresh.
 // A repeat times every contestant once, one after the other, so that a slow moment falls on all; ratios are taken within a repeat.
 #include <time.h>
 
@@ -9,6 +9,7 @@
 #include <boost/graph/floyd_warshall_shortest.hpp>
 #include <functional>
 #include <string>
+#include <utility>
 
 #include "drawn.hpp"
 #include "lists.hpp"
@@ -37,11 +38,13 @@ struct Prepared {
   Limit added;                             // a limit that Add takes
   Lists lists;
   Places at;  // of the lists, so that what is timed is the call alone; a Prepared is moved and never copied
+  mutable std::vector<std::uint64_t> words;  // updated where they stand, so that no copy is timed: after the first update they stay as they are
 };
 
 std::int32_t strict[most_cells], open_cells[most_cells];
 std::int64_t scratch[2 * most_cells];
 std::uint8_t buffer[24 + 12 * most_limits + 16 * most_links];
+std::uint64_t built[most_points];
 volatile std::uint64_t seen;  // keeps the calls from being left out
 
 // ---- plans ----
@@ -89,6 +92,30 @@ Prepared prepare(Random &random, const Plan &plan) {
   }
 }
 
+// For reach words: n points and n limits, none of them below 0, so that the plan is controllable and not every point bounds every other; and a limit
+// between points of which the first does not bound the second.
+Prepared prepare_words(Random &random, std::uint32_t n) {
+  Plan plan;
+  plan.points = n;
+  while (plan.limits.size() < n) {
+    const std::uint32_t from = random.below(n), to = random.below(n);
+    plan.limits.push_back({from, to, random.from_to(0, 1000)});
+  }
+  Prepared prepared;
+  prepared.file = file_of(plan);
+  prepared.cells = std::size_t(n) * n;
+  sweep::judge(prepared.file.data(), prepared.file.size(), strict, most_cells, open_cells, most_cells);
+  prepared.strict.assign(strict, strict + prepared.cells);
+  prepared.words.resize(n);
+  sweep::reach(n, strict, most_cells, prepared.words.data(), n);
+  for (int tries = 0; tries < 1000; ++tries) {
+    const std::uint32_t from = random.below(n), to = random.below(n);
+    prepared.added = {from, to, 0};
+    if (prepared.strict[from * n + to] == mark) break;
+  }
+  return prepared;
+}
+
 // ---- contestants ----
 
 struct Contestant {
@@ -121,6 +148,18 @@ Contestant writing(const char *name, Write write) {
   return {name, [write](const Prepared &p) { seen = write_lists(write, p.lists, p.at, buffer, sizeof buffer); }};
 }
 
+template <class Reach>
+Contestant building(const char *name, Reach reach) {
+  return {name, [reach](const Prepared &p) { seen = reach(std::uint32_t(p.words.size()), p.strict.data(), p.cells, built, most_points); }};
+}
+
+template <class ReachAdd>
+Contestant updating(const char *name, ReachAdd reach_add) {
+  return {name, [reach_add](const Prepared &p) {
+            seen = reach_add(std::uint32_t(p.words.size()), p.added.from, p.added.to, p.words.data(), p.words.size());
+          }};
+}
+
 // Boost's Floyd-Warshall as its manual has it: an adjacency list with weights, built from the file, and a matrix of distances.
 void boost_floyd_warshall(const Prepared &p) {
   using Graph = boost::adjacency_list<boost::vecS, boost::vecS, boost::directedS, boost::no_property, boost::property<boost::edge_weight_t, int>>;
@@ -151,6 +190,13 @@ double time_of(const Contestant &contestant, const std::vector<Prepared> &plans,
   return (microseconds_now() - began) / double(rounds) / double(plans.size());
 }
 
+// Microseconds or a ratio, with more digits where it is small.
+std::string figure(double value) {
+  char text[40];
+  std::snprintf(text, sizeof text, value < 0.1 ? "%.4f" : "%.2f", value);
+  return text;
+}
+
 // One table for each call, printed as Markdown at the end.
 struct Report {
   std::string call;
@@ -174,16 +220,16 @@ void measure(Report &report, const std::string &plans_are, const std::vector<Con
   report.rows += "| " + plans_are;
   for (std::size_t i = 0; i < contestants.size(); ++i) {
     report.names.push_back(contestants[i].name);
-    char cell[100] = "";
+    std::string cell;
     if (plays(i)) {
       Figures ratio;
       for (std::size_t repeat = 0; repeat < figures[i].microseconds.size(); ++repeat)
         ratio.microseconds.push_back(figures[i].microseconds[repeat] / figures[0].microseconds[repeat]);
       const auto ends = std::minmax_element(ratio.microseconds.begin(), ratio.microseconds.end());
-      if (i == 0) std::snprintf(cell, sizeof cell, "%.2f", figures[i].median());
-      else std::snprintf(cell, sizeof cell, "%.2f x%.2f (%.2f-%.2f)", figures[i].median(), ratio.median(), *ends.first, *ends.second);
+      cell = figure(figures[i].median());
+      if (i > 0) cell += " x" + figure(ratio.median()) + " (" + figure(*ends.first) + "-" + figure(*ends.second) + ")";
     }
-    report.rows += std::string(" | ") + cell;
+    report.rows += " | " + cell;
   }
   report.rows += " |\n";
 }
@@ -206,11 +252,49 @@ void print_stack(const char *name, decltype(&post_judge) judge, decltype(&post_c
               stack_of([&] { writing("", write).call(p); }));
 }
 
+// ---- reach words ----
+
+// The update after Add beside building afresh, by the library and in plain C++, and building by both.
+void measure_words(const Budget &budget, int repeats) {
+  const std::vector<std::string> columns = {"n", "points that a point bounds", "words that are updated"};
+  std::vector<std::pair<Report, std::vector<Contestant>>> tables;
+  std::vector<Contestant> builds = {building("plain C++", sweep::reach)};
+#ifdef WITH_LIBRARY
+  builds.push_back(building("library", post_reach));
+  tables.push_back({{"Reach after Add by the library, beside building afresh", columns, "", {}}, {building("afresh", post_reach), updating("updated", post_reach_add)}});
+#endif
+  tables.push_back({{"Reach after Add in plain C++, beside building afresh", columns, "", {}}, {building("afresh", sweep::reach), updating("updated", sweep::reach_add)}});
+  tables.push_back({{"Reach", columns, "", {}}, builds});
+  for (std::uint32_t n : {8u, 16u, 32u, 64u}) {
+    Random random = row_of(budget.seed, n, 0);
+    std::vector<Prepared> plans;
+    unsigned bounded = 0, updated = 0;
+    for (int i = 0; i < 12; ++i) {
+      plans.push_back(prepare_words(random, n));
+      for (std::uint64_t word : plans.back().words) {
+        for (std::uint32_t y = 0; y < n; ++y) bounded += word >> y & 1;
+        updated += word >> plans.back().added.from & 1;
+      }
+    }
+    char plans_are[80];
+    std::snprintf(plans_are, sizeof plans_are, "%u | %.1f | %.1f", n, bounded / 12.0 / n, updated / 12.0);
+    for (auto &[report, contestants] : tables) measure(report, plans_are, contestants, plans, repeats);
+  }
+  std::printf("\nReach words: 12 plans of n limits a row; x: the ratio to the first column of times in the same repeat. The words take 8 n bytes.\n");
+  for (const auto &[report, contestants] : tables) print(report);
+}
+
 }  // namespace
 
 int main(int words, char **word) {
-  Budget budget(words, word, 15);  // count: repeats
+  const bool words_alone = words > 1 && std::string(word[1]) == "words";
+  Budget budget(words - words_alone, word + words_alone, 15);  // count: repeats
   const int repeats = int(budget.count);
+  if (words_alone) {
+    std::printf("Microseconds of processor time a call, the median of %d repeats\n", repeats);
+    measure_words(budget, repeats);
+    return 0;
+  }
   std::vector<Contestant> judges = {judging("plain C++", sweep::judge)}, checks = {checking("plain C++", sweep::check)},
                           adds = {adding("plain C++", sweep::add)}, writes = {writing("plain C++", sweep::write)};
 #ifdef WITH_LIBRARY
@@ -261,6 +345,7 @@ int main(int words, char **word) {
   std::printf("Microseconds of processor time a call, the median of %d repeats;\n", repeats);
   std::printf("x: the ratio to plain C++ in the same repeat, its median (least-most). Both tables take 8 n n bytes, Add's scratch 16 n n.\n");
   for (const Report *report : {&judge_report, &check_report, &add_report, &write_report}) print(*report);
+  measure_words(budget, repeats);
   std::printf("\nBytes of stack a call touches, at n 64 and k 32\n\n");
   print_stack("plain C++", sweep::judge, sweep::check, sweep::add, sweep::write, largest[0]);
 #ifdef WITH_LIBRARY

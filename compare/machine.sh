@@ -6,7 +6,7 @@ root=$(dirname "$here")
 out=$root/target/compare
 library=${POST_LIBRARY:-$root/target/staticlib/libpost.a}
 verdict=$root/target/bin/verdict  # the small program
-holding=(hold shrink ground shapes reasons reference)  # what a program that holds the calls is linked with
+holding=(hold shrink ground shapes reasons words reference)  # what a program that holds the calls is linked with
 flags=(-I"$root/include" -std=c++17 "${OPTIMIZE:--O2}" -Wall -Wextra)
 fail() { echo "compare: $*" >&2; exit 2; }
 
@@ -75,7 +75,7 @@ link() {
   shift
   for name in "$@"; do
     if [[ $name == calls ]]; then
-      if [[ $flavour == library ]]; then objects+=("$library"); else objects+=("$out/$flavour"/{standin,sweep,lines}.o); fi
+      if [[ $flavour == library ]]; then objects+=("$library"); else objects+=("$out/$flavour"/{standin,sweep,lines,bits}.o); fi
     else
       objects+=("$out/$flavour/$name.o")
     fi

@@ -38,3 +38,19 @@ uint32_t post_rests(const uint32_t *kinds, size_t kinds_len, const uint32_t *fir
                     size_t seconds_len, uint32_t line) {
   return sweep::rests(kinds, kinds_len, firsts, firsts_len, seconds, seconds_len, line);
 }
+
+uint64_t post_reach(uint32_t n, const int32_t *strict, size_t strict_len, uint64_t *words, size_t words_len) {
+  return sweep::reach(n, strict, strict_len, words, words_len);
+}
+
+uint64_t post_bounded(uint32_t n, const uint64_t *words, size_t words_len, uint32_t x, uint32_t *out, size_t out_len) {
+  return sweep::bounded(n, words, words_len, x, out, out_len);
+}
+
+uint64_t post_both(uint32_t n, const uint64_t *words, size_t words_len, uint32_t x, uint32_t y, uint64_t *out, size_t out_len) {
+  return sweep::both(n, words, words_len, x, y, out, out_len);
+}
+
+uint64_t post_reach_add(uint32_t n, uint32_t x, uint32_t y, uint64_t *words, size_t words_len) {
+  return sweep::reach_add(n, x, y, words, words_len);
+}

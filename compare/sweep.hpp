@@ -15,6 +15,10 @@ decltype(post_add) add;
 decltype(post_write) write;
 decltype(post_reasons) reasons;  // these two in lines.cpp
 decltype(post_rests) rests;
+decltype(post_reach) reach;  // these four in bits.cpp
+decltype(post_bounded) bounded;
+decltype(post_both) both;
+decltype(post_reach_add) reach_add;
 
 // Codes 1 to 8 of a file, with 6, 7 and 8 the offset of the field at fault as place; else 0.
 std::uint64_t sound(const std::uint8_t *file, std::size_t file_len);

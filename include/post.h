@@ -9,8 +9,8 @@
  * WHAT IS LENT. A slice is a pointer and a length, and the length counts elements, not bytes. You lend it for the time
  * of the call: the call keeps no pointer, reads nothing outside the slices, and writes nothing unless this file says so
  * at that call. On your side:
- *   - the pointer is not NULL and is aligned for its type (4 bytes for int32_t and uint32_t, 8 for int64_t), also where
- *     the length is 0;
+ *   - the pointer is not NULL and is aligned for its type (4 bytes for int32_t and uint32_t, 8 for int64_t and
+ *     uint64_t), also where the length is 0;
  *   - all the elements it promises are there and have been written once;
  *   - nobody writes them while the call runs. Slices that are only read may overlap. A slice that a call may write
  *     overlaps no other slice of that call, and nobody else reads it while the call runs.
@@ -29,6 +29,10 @@
  *     const int32_t *row = table + (size_t)x * n;       // n cells, row[y] is the cell from x to y
  *
  * where n is 1 to 64, x is below n, and both tables have at least n x n cells; otherwise there is no row.
+ *
+ * A WORD is a uint64_t that says which points a point bounds, at whatever number of seconds: bit y of word x, which is
+ * (words[x] >> y) & 1, is 1 exactly where the strict cell from x to y is not POST_MARK. A plan of n points has n words,
+ * kept beside its strict table; their bits from n on are 0.
  */
 #ifndef POST_H
 #define POST_H
@@ -63,7 +67,8 @@ enum post_code {
     POST_DONE = 0,              /* done, or accepted */
     POST_FEW_BYTES = 1,         /* the file has fewer than 24 bytes */
     POST_BAD_VERSION = 2,       /* the file's version is not 1 */
-    POST_BAD_POINTS = 3,        /* the number of points is not 1 to 64 */
+    POST_BAD_POINTS = 3,        /* the number of points is not 1 to 64; the calls on words: or a point handed to them is
+                                   not below it */
     POST_BAD_COUNTS = 4,        /* more than 1,024 limits or more than 32 links */
     POST_BAD_LAYOUT = 5,        /* an offset or the file's length is not as laid down; post_write: lists that belong
                                    together differ in length */
@@ -76,8 +81,9 @@ enum post_code {
                                    one's contingent point begins */
     POST_SHORT_ROOM = 9,        /* a lent slice is shorter than needed: n x n cells in each table, 2 x n x n in the
                                    scratch of post_add, n times of post_earliest, the file's bytes in the buffer of
-                                   post_write, 4 x n x n cells in the work room of post_reasons; post_reasons: also a
-                                   list longer than its room */
+                                   post_write, 4 x n x n cells in the work room of post_reasons, n words of every call
+                                   on words, 3 numbers out of post_bounded, 1 word out of post_both; post_reasons: also
+                                   a list longer than its room */
     POST_HAS_LINKS = 10,        /* post_earliest: the plan has links */
     POST_NOT_CONTROLLABLE = 11, /* not for every choice of durations: whatever is done, there are durations within their
                                    bounds, known only once they have passed, for which a limit is broken; without
@@ -250,6 +256,67 @@ uint64_t post_reasons(const uint8_t *file, size_t file_len, uint32_t *kinds, siz
  * a larger number than the stack has room for.
  */
 uint32_t post_rests(const uint32_t *kinds, size_t kinds_len, const uint32_t *firsts, size_t firsts_len, const uint32_t *seconds, size_t seconds_len, uint32_t line);
+
+/*
+ * The calls on words: post_reach builds them from the strict table that post_judge filled, post_bounded and post_both
+ * answer what a dispatcher asks, and post_reach_add brings them up to date after each post_add that answered 0. The
+ * place is always 0. Any words may be lent, also such as no table gives: their bits, those from n on too, are taken as
+ * they are.
+ *
+ * Reach: the words of a strict table.
+ *
+ *   0        built. Each of the first n words has a bit for every point that its point bounds, and no bit from n on
+ *   3        n is not 1 to 64; nothing changes
+ *   9        the table has fewer than n x n cells, or there are fewer than n words; nothing changes
+ *
+ * Lent: the strict table (strict_len cells), which is only read and may hold anything, and the words (words_len of
+ * them), which may hold anything. Words beyond the first n never change. Where post_judge answered 11 the table holds
+ * POST_MARK alone, and the first n words become 0.
+ */
+uint64_t post_reach(uint32_t n, const int32_t *strict, size_t strict_len, uint64_t *words, size_t words_len);
+
+/*
+ * Bounded: how many points a point bounds, and the lowest and the highest of them. A point whose strict cell to itself
+ * is a number, as in every table of post_judge and post_add, is one of those it bounds.
+ *
+ *   0        out[0] is the number of bits that are 1 in words[x], out[1] the lowest of them and out[2] the highest;
+ *            where there is none, they are 0, 64 and 64
+ *   3        n is not 1 to 64, or x is not below n; nothing changes
+ *   9        there are fewer than n words, also where words[x] is among them, or out has room for fewer than 3 numbers;
+ *            nothing changes
+ *
+ * Lent: the words, which are only read, and out (out_len numbers), which may hold anything. What lies in out beyond the
+ * first 3 never changes.
+ */
+uint64_t post_bounded(uint32_t n, const uint64_t *words, size_t words_len, uint32_t x, uint32_t *out, size_t out_len);
+
+/*
+ * Both: the points that two points both bound, as a word. The two may be one.
+ *
+ *   0        out[0] has exactly the bits that are 1 in words[x] and in words[y]
+ *   3        n is not 1 to 64, or x or y is not below n; nothing changes
+ *   9        there are fewer than n words, also where both that are asked for are among them, or out has no room;
+ *            nothing changes
+ *
+ * Lent: the words, which are only read, and out (out_len words), which may hold anything. What lies in out beyond the
+ * first never changes.
+ */
+uint64_t post_both(uint32_t n, const uint64_t *words, size_t words_len, uint32_t x, uint32_t y, uint64_t *out, size_t out_len);
+
+/*
+ * Reach after Add: the words brought up to date by the one new limit. Call it after each post_add that answered 0, with
+ * the same x and y and the words of the table as it was before: then they are the words that post_reach would build
+ * from the new strict table. After any other answer of post_add the tables have not changed, and the words stand.
+ *
+ *   0        each of the first n words in which bit x is 1 has also the bits of words[y]; the others are unchanged, and
+ *            so is words[y]
+ *   3        n is not 1 to 64, or x or y is not below n; nothing changes
+ *   9        there are fewer than n words; nothing changes
+ *
+ * Lent: the words. Words beyond the first n never change. A second call with the same x and y changes nothing.
+ * Time: one step for each of the n words, where post_reach looks at n x n cells.
+ */
+uint64_t post_reach_add(uint32_t n, uint32_t x, uint32_t y, uint64_t *words, size_t words_len);
 
 #ifdef __cplusplus
 }
