@@ -11,5 +11,5 @@ pub highest-spec : {M : Type 1} → statement M
 highest-spec =
     tie.close
     (tie.spec returns
-    (λ c. leading-few _ (omega (arith, c .if1 .left)) (c .before .fits .w .fits))
+    (λ c. omega (arith, leading-few (c .before .args .w) (omega (arith, c .if1 .left)) (c .before .fits .w .fits)))
     (λ c. leading-highest _ (omega (arith, c .if1 .left)) (c .before .fits .w .fits)))
