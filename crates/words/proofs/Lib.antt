@@ -8,3 +8,4 @@ mod OneAnswer
 mod Built
 mod Updated
 mod AfterAdd
+mod ReachLaws

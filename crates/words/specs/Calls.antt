@@ -28,7 +28,7 @@ inRange n = leb 1 n && leb n (version1 .points)
 unfoldable pub roomAnswer : ℕ → ℕ → ℕ → Answer
 roomAnswer n cells words = unless (inRange n) BadPoints then unless (leb (n * n) cells && leb n words) ShortRoom
 
--- a call about the points x and y: n and the points, then n words. "Fewer than n words is 9 even where the point asked for lies inside" (REQUESTS, 4).
+-- a call about the points x and y: n and the points, then n words, also where the words of x and y are there
 unfoldable pub askedAnswer : ℕ → ℕ → ℕ → ℕ → Answer
 askedAnswer n x y words = unless (inRange n && ltb x n && ltb y n) BadPoints then unless (leb n words) ShortRoom
 
@@ -66,11 +66,11 @@ pub record BothIs (n : ℕ) (words : List ℕ) (x y : ℕ) (r : Common) : Type 0
   pub word-is : r .answer ≡ Done → r .word ≡ wordOf wordBits (λ z. bit (wordAt words x) z && bit (wordAt words y) z)
   pub refused : r .answer ≢ Done → r .word ≡ 0
 
--- "every word with bit x takes word y's bits" (REQUESTS, 4): a word after the update, where `to` is word y
+-- "updated from the one new limit", from x to y: a word that has bit x takes the bits of word y, which is `to` here, and any other stays
 abbrev pub taking : ℕ → ℕ → ℕ → ℕ
 taking x to w = cond (bit w x) (wordOf wordBits (λ z. bit w z || bit to z)) w
 
--- Update: "After a taken Add they are updated from the one new limit"; with a refusal no word changes.
+-- Reach after Add: "After a taken Add they are updated from the one new limit"; with a refusal no word changes.
 pub data ReachAdded (n x y : ℕ) (words : List ℕ) : Answer → List ℕ → Type 0 where
   refused : {a : Answer} → a ≡ askedAnswer n x y (length words) → a ≢ Done → ReachAdded n x y words a words
   updated : {words′ : List ℕ} → askedAnswer n x y (length words) ≡ Done

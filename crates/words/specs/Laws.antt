@@ -1,4 +1,4 @@
--- Document 02, item 6: what is promised of the calls on reach words together, over their statements alone. Each is proved by one name (proofs/). Assumes nothing.
+-- Document 02, item 6: what is promised of the calls on reach words together, over their statements alone; and that two answers are equal. Assumes nothing.
 use mathlib.Core.Path.{_≡_}
 use mathlib.Core.Logic.{_↔_}
 use mathlib.Core.Bool.{true, _&&_}
@@ -73,6 +73,17 @@ abbrev pub UpdatedInAnyOrder : Type 0
 UpdatedInAnyOrder =
     (n x y x′ y′ : ℕ) (words one two one-two two-one : List ℕ) → ReachAdded n x y words Done one → ReachAdded n x′ y′ one Done one-two
     → ReachAdded n x′ y′ words Done two → ReachAdded n x y two Done two-one → one-two ≡ two-one
+
+-- all of these
+pub record ReachLaws : Type 0 where
+  pub zero-word : WordOfZero
+  pub built-bits : BitsOfBuilt
+  pub built-numbers : BoundedOfBuilt
+  pub built-both : BothOfBuilt
+  pub judged-bits : BitsOfJudged
+  pub afresh : UpdatedAsAfresh
+  pub twice : UpdatedTwice
+  pub any-order : UpdatedInAnyOrder
 
 -- Two answers to the same input are equal, in every number and every lent word.
 abbrev pub ReachedOnce : Type 0

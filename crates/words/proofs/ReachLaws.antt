@@ -1,0 +1,18 @@
+-- The laws of the calls on reach words, under one name. Assumes nothing.
+use Rattle.words.specs.Laws.{ReachLaws}
+use Rattle.words.proofs.OneAnswer.{word-of-zero}
+use Rattle.words.proofs.Built.{bits-of-built, bounded-of-built, both-of-built, bits-of-judged}
+use Rattle.words.proofs.Updated.{updated-twice, updated-in-any-order}
+use Rattle.words.proofs.AfterAdd.{updated-as-afresh}
+
+pub reach-laws : ReachLaws
+reach-laws = record {
+  zero-word = word-of-zero;
+  built-bits = bits-of-built;
+  built-numbers = bounded-of-built;
+  built-both = both-of-built;
+  judged-bits = bits-of-judged;
+  afresh = updated-as-afresh;
+  twice = updated-twice;
+  any-order = updated-in-any-order;
+}
