@@ -25,7 +25,7 @@ use Rattle.plan.specs.Layout.{planOf}
 use Rattle.plan.specs.File.{fileAnswer, addAnswer}
 use Rattle.plan.proofs.SoundFile.{good, add-exactly}
 use Rattle.words.specs.Sets.{Set, wordBits, wordOf}
-use Rattle.words.specs.Calls.{askedAnswer, bounds, wordAt, taking, Reached}
+use Rattle.words.specs.Calls.{askedAnswer, bounds, pointWord, taking, Reached}
 use Rattle.words.specs.Laws.{UpdatedAsAfresh}
 use Rattle.words.proofs.Bits.{same-bits, word-lt}
 use Rattle.words.proofs.Asked.{done-room}
@@ -136,7 +136,7 @@ module _ {s : List ℕ} {m : Limit} {strict weak strict′ weak′ : List ℤ} (
     taken = built-asked b (limit-ranged .from) (limit-ranged .to)
 
     -- a word of the old table becomes that of the new one
-    afresh : (i : ℕ) → i < points → taking (m .from) (wordAt words₁ (m .to)) (wordAt words₁ i) ≡ wordOf points (bounds points strict′ i)
+    afresh : (i : ℕ) → i < points → taking (m .from) (pointWord words₁ (m .to)) (pointWord words₁ i) ≡ wordOf points (bounds points strict′ i)
     afresh i h =
         ap₂ (taking (m .from)) (built-word b (m .to) (limit-ranged .to)) (built-word b i h)
         ∙ taking-word points (m .from) (bounds points strict i) (bounds points strict (m .to)) (bounds points strict′ i) (b .room .few)

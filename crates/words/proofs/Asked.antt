@@ -17,7 +17,7 @@ use Rattle.answers.proofs.CodeZero.{then-done, done-then, unless-done, done-unl
 use Rattle.plan.proofs.TestsMade.{both, and}
 use Rattle.words.specs.declared.Extent.{Extent}
 use Rattle.words.specs.Sets.{Numbers, wordBits, bit}
-use Rattle.words.specs.Calls.{inRange, roomAnswer, askedAnswer, wordAt, BoundedIs, BothIs}
+use Rattle.words.specs.Calls.{inRange, roomAnswer, askedAnswer, pointWord, BoundedIs, BothIs}
 use Rattle.words.proofs.Bits.{and-word}
 
 -- ---- the tests before a call
@@ -145,14 +145,14 @@ module _ {n x : ℕ} {words : List ℕ} {a : Answer} {r : Extent} (e : a ≡ ask
   pub bounded-refused : a ≢ Done → (r .answer ≡ a) × Numbers wordBits (bit 0) (r .number) (r .lowest) (r .highest) → BoundedIs n words x r
   bounded-refused h k = record { answer-is = k .0 ∙ e; numbers = λ d. absurd (h (sym (k .0) ∙ d)); refused = λ d. k .1 }
 
-  pub bounded-numbers : a ≡ Done → (r .answer ≡ a) × Numbers wordBits (bit (wordAt words x)) (r .number) (r .lowest) (r .highest) → BoundedIs n words x r
+  pub bounded-numbers : a ≡ Done → (r .answer ≡ a) × Numbers wordBits (bit (pointWord words x)) (r .number) (r .lowest) (r .highest) → BoundedIs n words x r
   bounded-numbers h k = record { answer-is = k .0 ∙ e; numbers = λ d. k .1; refused = λ d. absurd (d (k .0 ∙ h)) }
 
 module _ {n x y : ℕ} {words : List ℕ} {a : Answer} (e : a ≡ askedAnswer n x y (length words)) where
   pub both-refused : a ≢ Done → BothIs n words x y (record { answer = a; word = 0 })
   both-refused h = record { answer-is = e; word-is = λ d. absurd (h d); refused = λ d. refl }
 
-  pub both-word : a ≡ Done → wordAt words x < 2 ^ wordBits → wordAt words y < 2 ^ wordBits
-      → BothIs n words x y (record { answer = a; word = bitAnd (wordAt words x) (wordAt words y) })
+  pub both-word : a ≡ Done → pointWord words x < 2 ^ wordBits → pointWord words y < 2 ^ wordBits
+      → BothIs n words x y (record { answer = a; word = bitAnd (pointWord words x) (pointWord words y) })
   both-word h hx hy =
-      record { answer-is = e; word-is = λ d. and-word wordBits (wordAt words x) (wordAt words y) hx hy; refused = λ d. absurd (d h) }
+      record { answer-is = e; word-is = λ d. and-word wordBits (pointWord words x) (pointWord words y) hx hy; refused = λ d. absurd (d h) }

@@ -22,8 +22,8 @@ use Rattle.cell.specs.Steps.{isMark}
 use Rattle.plan.specs.Layout.{planOf}
 use Rattle.plan.specs.File.{fileAnswer}
 use Rattle.plan.proofs.SoundFile.{good}
-use Rattle.words.specs.Sets.{Set, wordBits, numberOf, Lowest, Highest, Numbers, bit, wordOf}
-use Rattle.words.specs.Calls.{askedAnswer, bounds, wordAt, FirstWords, Reached}
+use Rattle.words.specs.Sets.{Set, wordBits, howMany, Lowest, Highest, Numbers, bit, wordOf}
+use Rattle.words.specs.Calls.{askedAnswer, bounds, pointWord, FirstWords, Reached}
 use Rattle.words.specs.Laws.{BitsOfBuilt, BoundedOfBuilt, BothOfBuilt, Leads, BitsOfJudged}
 use Rattle.words.proofs.Bits.{no-bit, word-lt, word-bit}
 use Rattle.words.proofs.Counts.{same-number}
@@ -79,7 +79,7 @@ module _ (n : ℕ) (s : Set) (few : n ≤ wordBits) where
       Highest.highest l (bit-point y l e) (λ z k j. bit-point z j (b z k (omega arith)))
   highest-point (Highest.none b) = Highest.none (λ z h. bit-point z h (b z (omega arith)))
 
-  number-points : numberOf wordBits (bit (wordOf n s)) ≡ numberOf n s
+  number-points : howMany wordBits (bit (wordOf n s)) ≡ howMany n s
   number-points =
       number-below n wordBits (bit (wordOf n s)) few (λ z h k. no-bit n (word-lt n s) z h) ∙ same-number n (bit (wordOf n s)) s (word-bit n s)
 
@@ -93,7 +93,7 @@ module _ (n : ℕ) (s : Set) (few : n ≤ wordBits) where
 -- ---- of built words
 
 pub built-word : {n : ℕ} {strict : List ℤ} {words words′ : List ℕ} → Build n strict words words′ → (x : ℕ) → x < n
-    → wordAt words′ x ≡ wordOf n (bounds n strict x)
+    → pointWord words′ x ≡ wordOf n (bounds n strict x)
 built-word b x h = b .words-are .first x h
 
 -- a call about points below n is answered
@@ -183,7 +183,7 @@ bits-of-judged s strict weak strict′ weak′ words words′ j r x y hx hy = (t
     pointed = in-range-pointed (good s (judgement .sound) .ranges)
 
     -- the bit of a point below n says whether its cell is a number
-    bit-is : bit (wordAt words′ x) y ≡ bounds n strict′ x y
+    bit-is : bit (pointWord words′ x) y ≡ bounds n strict′ x y
     bit-is = bits-of-built n strict′ words words′ r x y hx ∙ ap (λ (t : Bool). t && bounds n strict′ x y) (lt-ltb y n hy)
 
     walked : Numbered (tableOf version1 n strict′ x y) → Leads (planOf s) x y
@@ -191,10 +191,10 @@ bits-of-judged s strict weak strict′ weak′ words words′ j r x y hx hy = (t
         let l : Led (planOf s) x y = number-led pointed (judgement .written .tables) hx hy e in
         (l .total, l .walk)
 
-    there : bit (wordAt words′ x) y ≡ true → Leads (planOf s) x y
+    there : bit (pointWord words′ x) y ≡ true → Leads (planOf s) x y
     there e = walked (bounds-number (tableOf version1 n strict′ x y) (sym bit-is ∙ e))
 
-    back : Leads (planOf s) x y → bit (wordAt words′ x) y ≡ true
+    back : Leads (planOf s) x y → bit (pointWord words′ x) y ≡ true
     back l =
         bit-is
         ∙ number-bounds (tableOf version1 n strict′ x y)

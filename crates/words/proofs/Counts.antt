@@ -9,21 +9,21 @@ use native.Mathlib.Omega.{arith}
 use lib.Dec.{eqb}
 use lib.Arith.{lt-one}
 use lib.Count.{ones, ones-step, trailingZeros, leadingZeros, leading-top, under}
-use Rattle.words.specs.Sets.{Set, wordBits, numberOf, Lowest, Highest, bit}
+use Rattle.words.specs.Sets.{Set, wordBits, howMany, Lowest, Highest, bit}
 use Rattle.words.specs.Sets as sets
 use Rattle.words.proofs.Bits.{digit, bit-zero, bit-suc, half-lt, no-bit, after}
 
 -- ---- ones
 
 -- the points of a set, its first one apart
-number-low : (k : ℕ) (s : Set) → numberOf (suc k) s ≡ cond (s 0) 1 0 + numberOf k (after s)
-unfolding numberOf
+number-low : (k : ℕ) (s : Set) → howMany (suc k) s ≡ cond (s 0) 1 0 + howMany k (after s)
+unfolding howMany
 number-low zero s = refl
 number-low (suc y) s = omega (arith, number-low y s)
 
 -- sets with the same points below k have the same number
-pub same-number : (k : ℕ) (s t : Set) → ((y : ℕ) → y < k → s y ≡ t y) → numberOf k s ≡ numberOf k t
-unfolding numberOf
+pub same-number : (k : ℕ) (s t : Set) → ((y : ℕ) → y < k → s y ≡ t y) → howMany k s ≡ howMany k t
+unfolding howMany
 same-number zero s t e = refl
 same-number (suc y) s t e =
     ap₂ (λ (b : Bool) (m : ℕ). cond b 1 0 + m) (e y (omega arith)) (same-number y s t (λ z h. e z (omega arith)))
@@ -32,8 +32,8 @@ same-number (suc y) s t e =
 counted : (w : ℕ) → cond (eqb (w % 2) 1) 1 0 ≡ w % 2
 counted w = ⊎-elim (λ e. rw e) (λ e. rw e) (digit w)
 
-pub ones-number : (k w : ℕ) → w < 2 ^ k → ones w ≡ numberOf k (bit w)
-unfolding numberOf ones
+pub ones-number : (k w : ℕ) → w < 2 ^ k → ones w ≡ howMany k (bit w)
+unfolding howMany ones
 ones-number zero w h = ap ones (lt-one h)
 ones-number (suc k) w h =
     ones-step w

@@ -15,8 +15,8 @@ use Rattle.rules.specs.Answers.{codeOf}
 use Rattle.rules.specs.declared.Answer.{Answer}
 use Rattle.rules.specs.declared.Answer.the-variants.{Done}
 use Rattle.answers.proofs.CodeZero.{code-zero}
-use Rattle.words.specs.Sets.{Set, wordBits, numberOf, Lowest, Highest, Numbers, bit}
-use Rattle.words.specs.Calls.{wordAt, FirstWords, Reached, ReachAdded}
+use Rattle.words.specs.Sets.{Set, wordBits, howMany, Lowest, Highest, Numbers, bit}
+use Rattle.words.specs.Calls.{pointWord, FirstWords, Reached, ReachAdded}
 use Rattle.words.specs.Handed.{three, BoundedInto, BothInto}
 use Rattle.words.specs.Laws.{WordOfZero, ReachedOnce, BoundedOnce, BothOnce, ReachAddedOnce, BoundedIntoOnce, BothIntoOnce}
 use Rattle.words.proofs.Bits.{no-bit}
@@ -40,11 +40,11 @@ done-or-not a = by (eqb (codeOf a) 0) refl
 -- ---- lent words
 
 -- two lists of one length with the same first n words, and the same from there on, are one list
-pub same-words : (n : ℕ) (u v : List ℕ) → length u ≡ length v → ((i : ℕ) → i < n → wordAt u i ≡ wordAt v i)
-    → ((i : ℕ) → n ≤ i → wordAt u i ≡ wordAt v i) → u ≡ v
+pub same-words : (n : ℕ) (u v : List ℕ) → length u ≡ length v → ((i : ℕ) → i < n → pointWord u i ≡ pointWord v i)
+    → ((i : ℕ) → n ≤ i → pointWord u i ≡ pointWord v i) → u ≡ v
 same-words n u v e a b = ext-getD 0 u v e (λ i h. at i (decLe n i))
   where
-    at : (i : ℕ) → Dec (n ≤ i) → wordAt u i ≡ wordAt v i
+    at : (i : ℕ) → Dec (n ≤ i) → pointWord u i ≡ pointWord v i
     at i (yes h) = b i h
     at i (no h) = a i (omega arith)
 
@@ -89,15 +89,15 @@ numbers-once a b = (
 -- ---- a word of 0
 
 -- points past n do not count where none of them is in the set
-pub number-below : (n k : ℕ) (s : Set) → n ≤ k → ((z : ℕ) → n ≤ z → z < k → s z ≡ false) → numberOf k s ≡ numberOf n s
-unfolding numberOf
+pub number-below : (n k : ℕ) (s : Set) → n ≤ k → ((z : ℕ) → n ≤ z → z < k → s z ≡ false) → howMany k s ≡ howMany n s
+unfolding howMany
 number-below n zero s l e =
     let i : 0 ≡ n = omega arith in
-    ap (λ (j : ℕ). numberOf j s) i
+    ap (λ (j : ℕ). howMany j s) i
 number-below n (suc k) s l e = by (eq-or-lt-of-le l) (λ h. number-below n k s (omega arith) (λ z p q. e z p (omega arith)))
   where
-    by : (n ≡ suc k) ⊎ (n < suc k) → (n < suc k → numberOf k s ≡ numberOf n s) → numberOf (suc k) s ≡ numberOf n s
-    by (inl i) f = ap (λ (j : ℕ). numberOf j s) (sym i)
+    by : (n ≡ suc k) ⊎ (n < suc k) → (n < suc k → howMany k s ≡ howMany n s) → howMany (suc k) s ≡ howMany n s
+    by (inl i) f = ap (λ (j : ℕ). howMany j s) (sym i)
     by (inr h) f = rw (e k (omega arith) (omega arith)) (omega (arith, f h))
 
 -- a word of 0 has no bit
@@ -105,7 +105,7 @@ no-points : (z : ℕ) → z < wordBits → bit 0 z ≡ false
 no-points z h = no-bit 0 (omega arith) z (omega arith)
 
 pub word-of-zero : WordOfZero
-unfolding numberOf
+unfolding howMany
 word-of-zero number low high n =
     numbers-once n (record {
       number-is = sym (number-below 0 wordBits (bit 0) (omega arith) (λ z p q. no-points z q));

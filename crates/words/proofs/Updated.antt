@@ -10,7 +10,7 @@ use lib.ListN.{length}
 use Rattle.rules.specs.declared.Answer.{Answer}
 use Rattle.rules.specs.declared.Answer.the-variants.{Done}
 use Rattle.words.specs.Sets.{wordBits, bit, wordOf}
-use Rattle.words.specs.Calls.{askedAnswer, wordAt, taking, FirstWords, ReachAdded}
+use Rattle.words.specs.Calls.{askedAnswer, pointWord, taking, FirstWords, ReachAdded}
 use Rattle.words.specs.Laws.{UpdatedTwice, UpdatedInAnyOrder}
 use Rattle.words.proofs.Bits.{same-bits, word-lt, word-bit}
 use Rattle.words.proofs.OneAnswer.{same-words}
@@ -20,7 +20,7 @@ use Rattle.words.proofs.Asked.{Asked, asked-done}
 
 pub record Update (n x y : ℕ) (words words′ : List ℕ) : Type 0 where
   pub asked : Asked n x y (length words)
-  pub words-are : FirstWords n (λ i. taking x (wordAt words y) (wordAt words i)) words words′
+  pub words-are : FirstWords n (λ i. taking x (pointWord words y) (pointWord words i)) words words′
 
 pub update-done : {n x y : ℕ} {words words′ : List ℕ} {a : Answer} → ReachAdded n x y words a words′ → a ≡ Done → Update n x y words words′
 update-done (ReachAdded.refused e d) i = absurd (d i)
@@ -102,7 +102,7 @@ updated-twice n x y words words₁ words₂ a b (ReachAdded.updated e d) (ReachA
           (λ i h.
           g .first i h
           ∙ ap₂ (taking x) (d .first y (q .second)) (d .first i h)
-          ∙ word-twice x (wordAt words y) (wordAt words i) hx
+          ∙ word-twice x (pointWord words y) (pointWord words i) hx
           ∙ sym (d .first i h))
           (g .beyond-same),
     )
@@ -177,7 +177,7 @@ updated-in-any-order n x y x′ y′ words one two one-two two-one a b c d =
     (λ i h.
     q .words-are .first i h
     ∙ ap₂ (taking x′) (p .words-are .first y′ hy′) (p .words-are .first i h)
-    ∙ either-order x x′ (wordAt words y) (wordAt words y′) (wordAt words i) hx hx′
+    ∙ either-order x x′ (pointWord words y) (pointWord words y′) (pointWord words i) hx hx′
     ∙ sym (ap₂ (taking x) (r .words-are .first y hy) (r .words-are .first i h))
     ∙ sym (s .words-are .first i h))
     (λ i h.

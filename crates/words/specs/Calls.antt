@@ -39,14 +39,14 @@ abbrev pub bounds : ℕ → List ℤ → ℕ → Set
 bounds n strict x y = not (isMark (tableOf version1 n strict x y))
 
 -- the word of a point
-abbrev pub wordAt : List ℕ → ℕ → ℕ
-wordAt words x = getD words x 0
+abbrev pub pointWord : List ℕ → ℕ → ℕ
+pointWord words x = getD words x 0
 
 -- the first n words are these, and no other changed
 pub record FirstWords (n : ℕ) (new : ℕ → ℕ) (words words′ : List ℕ) : Type 0 where
   pub length-same : length words′ ≡ length words
-  pub first : (x : ℕ) → x < n → wordAt words′ x ≡ new x
-  pub beyond-same : (x : ℕ) → n ≤ x → wordAt words′ x ≡ wordAt words x
+  pub first : (x : ℕ) → x < n → pointWord words′ x ≡ new x
+  pub beyond-same : (x : ℕ) → n ≤ x → pointWord words′ x ≡ pointWord words x
 
 -- Reach: "bit Y of word X is set exactly when the cell from X to Y isn't the no-path mark"; with a refusal no word changes.
 pub data Reached (n : ℕ) (strict : List ℤ) (words : List ℕ) : Answer → List ℕ → Type 0 where
@@ -57,13 +57,13 @@ pub data Reached (n : ℕ) (strict : List ℤ) (words : List ℕ) : Answer → L
 -- Bounded: "the number of bounded points, the lowest and the highest bounded point", of the word as it is lent; with a refusal those of no point.
 pub record BoundedIs (n : ℕ) (words : List ℕ) (x : ℕ) (r : Extent) : Type 0 where
   pub answer-is : r .answer ≡ askedAnswer n x x (length words)
-  pub numbers : r .answer ≡ Done → Numbers wordBits (bit (wordAt words x)) (r .number) (r .lowest) (r .highest)
+  pub numbers : r .answer ≡ Done → Numbers wordBits (bit (pointWord words x)) (r .number) (r .lowest) (r .highest)
   pub refused : r .answer ≢ Done → Numbers wordBits (bit 0) (r .number) (r .lowest) (r .highest)
 
 -- Both: "the points that two points both bound"; with a refusal no point.
 pub record BothIs (n : ℕ) (words : List ℕ) (x y : ℕ) (r : Common) : Type 0 where
   pub answer-is : r .answer ≡ askedAnswer n x y (length words)
-  pub word-is : r .answer ≡ Done → r .word ≡ wordOf wordBits (λ z. bit (wordAt words x) z && bit (wordAt words y) z)
+  pub word-is : r .answer ≡ Done → r .word ≡ wordOf wordBits (λ z. bit (pointWord words x) z && bit (pointWord words y) z)
   pub refused : r .answer ≢ Done → r .word ≡ 0
 
 -- "updated from the one new limit", from x to y: a word that has bit x takes the bits of word y, which is `to` here, and any other stays
@@ -74,4 +74,4 @@ taking x to w = cond (bit w x) (wordOf wordBits (λ z. bit w z || bit to z)) w
 pub data ReachAdded (n x y : ℕ) (words : List ℕ) : Answer → List ℕ → Type 0 where
   refused : {a : Answer} → a ≡ askedAnswer n x y (length words) → a ≢ Done → ReachAdded n x y words a words
   updated : {words′ : List ℕ} → askedAnswer n x y (length words) ≡ Done
-      → FirstWords n (λ i. taking x (wordAt words y) (wordAt words i)) words words′ → ReachAdded n x y words Done words′
+      → FirstWords n (λ i. taking x (pointWord words y) (pointWord words i)) words words′ → ReachAdded n x y words Done words′

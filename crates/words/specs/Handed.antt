@@ -11,7 +11,7 @@ use Rattle.rules.specs.declared.Answer.{Answer}
 use Rattle.rules.specs.declared.Answer.the-variants.{Done, ShortRoom}
 use Rattle.answers.specs.Order.{_then_, unless}
 use Rattle.words.specs.Sets.{wordBits, Numbers, bit, wordOf}
-use Rattle.words.specs.Calls.{askedAnswer, wordAt, FirstWords}
+use Rattle.words.specs.Calls.{askedAnswer, pointWord, FirstWords}
 
 -- the answer of a call about points that needs so many cells to write to
 unfoldable pub intoAnswer : ℕ → ℕ → ℕ → ℕ → ℕ → ℕ → Answer
@@ -27,10 +27,10 @@ three number low high (suc (suc i)) = high
 pub data BoundedInto (n : ℕ) (words : List ℕ) (x : ℕ) (out : List ℕ) : Answer → List ℕ → Type 0 where
   refused : {a : Answer} → a ≡ intoAnswer n x x (length words) 3 (length out) → a ≢ Done → BoundedInto n words x out a out
   handed : {out′ : List ℕ} {number low high : ℕ} → intoAnswer n x x (length words) 3 (length out) ≡ Done
-      → Numbers wordBits (bit (wordAt words x)) number low high → FirstWords 3 (three number low high) out out′ → BoundedInto n words x out Done out′
+      → Numbers wordBits (bit (pointWord words x)) number low high → FirstWords 3 (three number low high) out out′ → BoundedInto n words x out Done out′
 
 -- Both: the word in the first cell
 pub data BothInto (n : ℕ) (words : List ℕ) (x y : ℕ) (out : List ℕ) : Answer → List ℕ → Type 0 where
   refused : {a : Answer} → a ≡ intoAnswer n x y (length words) 1 (length out) → a ≢ Done → BothInto n words x y out a out
   handed : {out′ : List ℕ} → intoAnswer n x y (length words) 1 (length out) ≡ Done
-      → FirstWords 1 (λ i. wordOf wordBits (λ z. bit (wordAt words x) z && bit (wordAt words y) z)) out out′ → BothInto n words x y out Done out′
+      → FirstWords 1 (λ i. wordOf wordBits (λ z. bit (pointWord words x) z && bit (pointWord words y) z)) out out′ → BothInto n words x y out Done out′

@@ -17,7 +17,7 @@ use Rattle.plan.specs.File.{fileAnswer, addAnswer}
 use Rattle.words.specs.declared.Extent.{Extent}
 use Rattle.words.specs.declared.Common.{Common}
 use Rattle.words.specs.Sets.{Numbers, wordBits, bit}
-use Rattle.words.specs.Calls.{bounds, wordAt, Reached, BoundedIs, BothIs, ReachAdded}
+use Rattle.words.specs.Calls.{bounds, pointWord, Reached, BoundedIs, BothIs, ReachAdded}
 use Rattle.words.specs.Handed.{BoundedInto, BothInto}
 
 -- "A word of 0 answers a count of 0, and 64 as lowest and highest."
@@ -28,7 +28,7 @@ WordOfZero = (number low high : ℕ) → Numbers wordBits (bit 0) number low hig
 abbrev pub BitsOfBuilt : Type 0
 BitsOfBuilt =
     (n : ℕ) (strict : List ℤ) (words words′ : List ℕ) → Reached n strict words Done words′
-    → (x y : ℕ) → x < n → bit (wordAt words′ x) y ≡ (ltb y n && bounds n strict x y)
+    → (x y : ℕ) → x < n → bit (pointWord words′ x) y ≡ (ltb y n && bounds n strict x y)
 
 -- "the number of bounded points, the lowest and the highest bounded point": of built words they are those of the points whose cell is a number
 abbrev pub BoundedOfBuilt : Type 0
@@ -51,7 +51,7 @@ abbrev pub BitsOfJudged : Type 0
 BitsOfJudged =
     (s : List ℕ) (strict weak strict′ weak′ : List ℤ) (words words′ : List ℕ) → Judged version1 (fileAnswer s) (planOf s) strict weak Done strict′ weak′
     → Reached (planOf s .points) strict′ words Done words′ → (x y : ℕ) → x < planOf s .points → y < planOf s .points
-    → (bit (wordAt words′ x) y ≡ true) ↔ Leads (planOf s) x y
+    → (bit (pointWord words′ x) y ≡ true) ↔ Leads (planOf s) x y
 
 -- "After a taken Add they are updated from the one new limit and equal words built afresh": the update is taken, and leaves what Reach builds on the
 -- same lent words from the new strict table. That is one list (ReachedOnce).

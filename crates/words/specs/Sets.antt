@@ -13,9 +13,9 @@ abbrev pub wordBits : ℕ
 wordBits = 64
 
 -- "the number of bounded points": how many of the points below k are in the set
-unfoldable pub numberOf : ℕ → Set → ℕ
-numberOf zero s = 0
-numberOf (suc y) s = cond (s y) 1 0 + numberOf y s
+unfoldable pub howMany : ℕ → Set → ℕ
+howMany zero s = 0
+howMany (suc y) s = cond (s y) 1 0 + howMany y s
 
 -- "the lowest .. bounded point": of the points below k the one in the set that has none in the set before it
 pub data Lowest (k : ℕ) (s : Set) : ℕ → Type 0 where
@@ -29,7 +29,7 @@ pub data Highest (k : ℕ) (s : Set) : ℕ → Type 0 where
 
 -- the three numbers of a set
 pub record Numbers (k : ℕ) (s : Set) (number low high : ℕ) : Type 0 where
-  pub number-is : number ≡ numberOf k s
+  pub number-is : number ≡ howMany k s
   pub lowest-is : Lowest k s low
   pub highest-is : Highest k s high
 

@@ -3,7 +3,7 @@ ghost use mathlib.Core.Path.{_≡_};
 ghost use Prim.Native.Nat.{_≤_, _<_};
 ghost use lib.ListN.{length};
 ghost use Rattle.words.specs.Sets.{wordBits};
-ghost use Rattle.words.specs.Calls.{taking, wordAt, FirstWords, ReachAdded};
+ghost use Rattle.words.specs.Calls.{taking, pointWord, FirstWords, ReachAdded};
 use crate::asking::asked;
 use answers::accepted;
 use rules::Answer;
@@ -22,7 +22,7 @@ fn take(x: u64, to: u64, w: u64) -> u64
 // Every word that has bit x takes the bits of word y. Word y itself stays as it is, so it may be read once, before the others change.
 fn update(n: usize, x: u64, y: usize, words: &mut [u64])
     requires { ⌜ (n ≤ 64) × (x < n) × (y < n) × (n ≤ length (now words)) ⌝ }
-    ensures { λ r. ⌜ FirstWords n (λ i. taking x (wordAt (now (words .entry)) y) (wordAt (now (words .entry)) i)) (now (words .entry)) (now (words .exit)) ⌝ }
+    ensures { λ r. ⌜ FirstWords n (λ i. taking x (pointWord (now (words .entry)) y) (pointWord (now (words .entry)) i)) (now (words .entry)) (now (words .exit)) ⌝ }
 {
     let to = words[y];
     let mut i = 0;

@@ -1,12 +1,12 @@
 -- `updating::update` meets its contract: a turn for each word, with word y as it was at the start. Assumes nothing.
 use Rattle.lowering.proofs.Common.{needs, arith, _-_, _≤_, ap, _∙_}
-use Rattle.words.specs.Calls.{wordAt, taking, FirstWords}
+use Rattle.words.specs.Calls.{pointWord, taking, FirstWords}
 use Rattle.words.proofs.Written.{first-none, first-more, first-all}
 use Rattle.words.proofs.updating.update.Statement.{statement}
 use Rattle.words.proofs.updating.update.Tie as tie
 
 abbrev Inv-loop : tie.InvT-loop
-Inv-loop n x y words₀ to i₀ words i = (i ≤ n) × FirstWords i (λ j. taking x (wordAt words₀ y) (wordAt words₀ j)) words₀ words
+Inv-loop n x y words₀ to i₀ words i = (i ≤ n) × FirstWords i (λ j. taking x (pointWord words₀ y) (pointWord words₀ j)) words₀ words
 
 abbrev μ-loop : tie.MeasureT-loop
 μ-loop n x y words₀ to i₀ words i = n - i
