@@ -1,11 +1,11 @@
 -- What the walks through the code cite, and the laws of the four calls together.
-mod Bits
-mod Counts
-mod Asked
-mod Written
-mod Handed
-mod OneAnswer
-mod Built
-mod Updated
-mod AfterAdd
+mod BitsOfWords
+mod BitCounts
+mod WordAnswers
+mod WordsWritten
+mod HandedOut
+mod WordsOnce
+mod BuiltWords
+mod UpdatedWords
+mod WordsAfterAdd
 mod ReachLaws

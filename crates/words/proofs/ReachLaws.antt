@@ -1,9 +1,9 @@
 -- The laws of the calls on reach words, under one name. Assumes nothing.
 use Rattle.words.specs.Laws.{ReachLaws}
-use Rattle.words.proofs.OneAnswer.{word-of-zero}
-use Rattle.words.proofs.Built.{bits-of-built, bounded-of-built, both-of-built, bits-of-judged}
-use Rattle.words.proofs.Updated.{updated-twice, updated-in-any-order}
-use Rattle.words.proofs.AfterAdd.{updated-as-afresh}
+use Rattle.words.proofs.WordsOnce.{word-of-zero}
+use Rattle.words.proofs.BuiltWords.{bits-of-built, bounded-of-built, both-of-built, bits-of-judged}
+use Rattle.words.proofs.UpdatedWords.{updated-twice, updated-in-any-order}
+use Rattle.words.proofs.WordsAfterAdd.{updated-as-afresh}
 
 pub reach-laws : ReachLaws
 reach-laws = record {

@@ -1,5 +1,5 @@
 -- `asking::asked` meets its contract: n and the points, then room for n words. Assumes nothing.
-use Rattle.words.proofs.Asked.{asked-bad, asked-short, asked-through}
+use Rattle.words.proofs.WordAnswers.{asked-bad, asked-short, asked-through}
 use Rattle.words.proofs.asking.asked.Statement.{statement}
 use Rattle.words.proofs.asking.asked.Tie as tie
 

@@ -1,7 +1,7 @@
 -- `asking::both` meets its contract: the bits that both words have, or with a refusal none. Assumes nothing.
 use Rattle.lowering.proofs.Common.{needs, arith, length, refl}
 use Rattle.plan.proofs.SoundFile.{is-accepted, not-accepted}
-use Rattle.words.proofs.Asked.{Asked, asked-done, both-refused, both-word}
+use Rattle.words.proofs.WordAnswers.{Asked, asked-done, both-refused, both-word}
 use Rattle.words.proofs.asking.both.Statement.{statement}
 use Rattle.words.proofs.asking.both.Tie as tie
 

@@ -1,7 +1,7 @@
 -- `asking::bounded` meets its contract: the numbers of the word of x, or with a refusal those of a word of 0. Assumes nothing.
 use Rattle.lowering.proofs.Common.{needs, arith, length, refl}
 use Rattle.plan.proofs.SoundFile.{is-accepted, not-accepted}
-use Rattle.words.proofs.Asked.{Asked, asked-done, bounded-refused, bounded-numbers}
+use Rattle.words.proofs.WordAnswers.{Asked, asked-done, bounded-refused, bounded-numbers}
 use Rattle.words.proofs.asking.bounded.Statement.{statement}
 use Rattle.words.proofs.asking.bounded.Tie as tie
 

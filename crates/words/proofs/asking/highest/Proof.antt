@@ -1,6 +1,6 @@
 -- `asking::highest` meets its contract: the zeros above the highest bit, the bit and those below it make 64. Assumes nothing.
 use Rattle.lowering.proofs.Common.{arith}
-use Rattle.words.proofs.Counts.{zero-highest, leading-highest, leading-few}
+use Rattle.words.proofs.BitCounts.{zero-highest, leading-highest, leading-few}
 use Rattle.words.proofs.asking.highest.Statement.{statement}
 use Rattle.words.proofs.asking.highest.Tie as tie
 

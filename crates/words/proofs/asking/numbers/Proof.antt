@@ -1,6 +1,6 @@
 -- `asking::numbers` meets its contract: ones, trailing zeros and the highest bit. Assumes nothing.
 use Rattle.lowering.proofs.Common.{needs, refl}
-use Rattle.words.proofs.Counts.{ones-number, trailing-lowest}
+use Rattle.words.proofs.BitCounts.{ones-number, trailing-lowest}
 use Rattle.words.proofs.asking.numbers.Statement.{statement}
 use Rattle.words.proofs.asking.numbers.Tie as tie
 

@@ -2,7 +2,7 @@
 use Rattle.lowering.proofs.Common.{needs, arith, _-_, _≤_}
 use Rattle.words.specs.Sets.{wordOf}
 use Rattle.words.specs.Calls.{bounds, FirstWords}
-use Rattle.words.proofs.Written.{first-none, first-more, first-all}
+use Rattle.words.proofs.WordsWritten.{first-none, first-more, first-all}
 use Rattle.words.proofs.building.build.Statement.{statement}
 use Rattle.words.proofs.building.build.Tie as tie
 

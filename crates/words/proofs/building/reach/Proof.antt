@@ -2,7 +2,7 @@
 use Rattle.lowering.proofs.Common.{needs, refl}
 use Rattle.plan.proofs.SoundFile.{is-accepted, not-accepted}
 use Rattle.words.specs.Calls.{Reached}
-use Rattle.words.proofs.Asked.{room-done}
+use Rattle.words.proofs.WordAnswers.{room-done}
 use Rattle.words.proofs.building.reach.Statement.{statement}
 use Rattle.words.proofs.building.reach.Tie as tie
 

@@ -1,6 +1,6 @@
 -- `building::room` meets its contract: n, then room for a table and n words. Assumes nothing.
 use Rattle.lowering.proofs.Common.{arith, square-le}
-use Rattle.words.proofs.Asked.{room-bad, room-short, room-through, points-few}
+use Rattle.words.proofs.WordAnswers.{room-bad, room-short, room-through, points-few}
 use Rattle.words.proofs.building.room.Statement.{statement}
 use Rattle.words.proofs.building.room.Tie as tie
 

@@ -3,7 +3,7 @@ use mathlib.Core.Logic.{⊎-elim}
 use Rattle.lowering.proofs.Common.{needs, arith, _-_, _≤_, _≡_, refl, _∙_}
 use Rattle.words.specs.Sets.{wordOf}
 use Rattle.words.specs.Calls.{bounds}
-use Rattle.words.proofs.Written.{bound-read, bit-set, bit-left, word-all}
+use Rattle.words.proofs.WordsWritten.{bound-read, bit-set, bit-left, word-all}
 use Rattle.words.proofs.building.word.Statement.{statement}
 use Rattle.words.proofs.building.word.Tie as tie
 

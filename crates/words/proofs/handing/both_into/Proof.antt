@@ -1,6 +1,6 @@
 -- `handing::both_into` meets its contract: the word that `both` answers, where there is room. Assumes nothing.
 use Rattle.lowering.proofs.Common.{needs}
-use Rattle.words.proofs.Handed.{both-into-refused, both-into-short, both-into-handed}
+use Rattle.words.proofs.HandedOut.{both-into-refused, both-into-short, both-into-handed}
 use Rattle.words.proofs.handing.both_into.Statement.{statement}
 use Rattle.words.proofs.handing.both_into.Tie as tie
 

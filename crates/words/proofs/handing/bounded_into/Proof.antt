@@ -1,6 +1,6 @@
 -- `handing::bounded_into` meets its contract: the numbers that `bounded` answers, where there is room. Assumes nothing.
 use Rattle.lowering.proofs.Common.{needs, arith}
-use Rattle.words.proofs.Handed.{bounded-into-refused, bounded-into-short, bounded-into-handed, kept-room}
+use Rattle.words.proofs.HandedOut.{bounded-into-refused, bounded-into-short, bounded-into-handed, kept-room}
 use Rattle.words.proofs.handing.bounded_into.Statement.{statement}
 use Rattle.words.proofs.handing.bounded_into.Tie as tie
 

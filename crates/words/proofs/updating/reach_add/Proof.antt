@@ -2,7 +2,7 @@
 use Rattle.lowering.proofs.Common.{needs, length, refl}
 use Rattle.plan.proofs.SoundFile.{is-accepted, not-accepted}
 use Rattle.words.specs.Calls.{ReachAdded}
-use Rattle.words.proofs.Asked.{Asked, asked-done}
+use Rattle.words.proofs.WordAnswers.{Asked, asked-done}
 use Rattle.words.proofs.updating.reach_add.Statement.{statement}
 use Rattle.words.proofs.updating.reach_add.Tie as tie
 

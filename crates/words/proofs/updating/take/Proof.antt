@@ -1,6 +1,6 @@
 -- `updating::take` meets its contract: the bits of both words where bit x is set. Assumes nothing.
 use Rattle.lowering.proofs.Common.{needs}
-use Rattle.words.proofs.Written.{bits-taken, bits-not-taken}
+use Rattle.words.proofs.WordsWritten.{bits-taken, bits-not-taken}
 use Rattle.words.proofs.updating.take.Statement.{statement}
 use Rattle.words.proofs.updating.take.Tie as tie
 

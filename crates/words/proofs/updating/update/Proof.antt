@@ -1,7 +1,7 @@
 -- `updating::update` meets its contract: a turn for each word, with word y as it was at the start. Assumes nothing.
 use Rattle.lowering.proofs.Common.{needs, arith, _-_, _≤_, ap, _∙_}
 use Rattle.words.specs.Calls.{pointWord, taking, FirstWords}
-use Rattle.words.proofs.Written.{first-none, first-more, first-all}
+use Rattle.words.proofs.WordsWritten.{first-none, first-more, first-all}
 use Rattle.words.proofs.updating.update.Statement.{statement}
 use Rattle.words.proofs.updating.update.Tie as tie
 

@@ -11,7 +11,7 @@ use lib.Arith.{lt-one}
 use lib.Count.{ones, ones-step, trailingZeros, leadingZeros, leading-top, under}
 use Rattle.words.specs.Sets.{Set, wordBits, howMany, Lowest, Highest, bit}
 use Rattle.words.specs.Sets as sets
-use Rattle.words.proofs.Bits.{digit, bit-zero, bit-suc, half-lt, no-bit, after}
+use Rattle.words.proofs.BitsOfWords.{digit, bit-zero, bit-suc, half-lt, no-bit, after}
 
 -- ---- ones
 

@@ -18,7 +18,7 @@ use Rattle.plan.proofs.TestsMade.{both, and}
 use Rattle.words.specs.declared.Extent.{Extent}
 use Rattle.words.specs.Sets.{Numbers, wordBits, bit}
 use Rattle.words.specs.Calls.{inRange, roomAnswer, askedAnswer, pointWord, BoundedIs, BothIs}
-use Rattle.words.proofs.Bits.{and-word}
+use Rattle.words.proofs.BitsOfWords.{and-word}
 
 -- ---- the tests before a call
 

@@ -12,9 +12,9 @@ use Rattle.rules.specs.declared.Answer.the-variants.{Done}
 use Rattle.words.specs.Sets.{wordBits, bit, wordOf}
 use Rattle.words.specs.Calls.{askedAnswer, pointWord, taking, FirstWords, ReachAdded}
 use Rattle.words.specs.Laws.{UpdatedTwice, UpdatedInAnyOrder}
-use Rattle.words.proofs.Bits.{same-bits, word-lt, word-bit}
-use Rattle.words.proofs.OneAnswer.{same-words}
-use Rattle.words.proofs.Asked.{Asked, asked-done}
+use Rattle.words.proofs.BitsOfWords.{same-bits, word-lt, word-bit}
+use Rattle.words.proofs.WordsOnce.{same-words}
+use Rattle.words.proofs.WordAnswers.{Asked, asked-done}
 
 -- ---- what Update did where it answers Done
 

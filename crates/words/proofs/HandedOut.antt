@@ -17,8 +17,8 @@ use Rattle.words.specs.declared.Extent.{Extent}
 use Rattle.words.specs.declared.Common.{Common}
 use Rattle.words.specs.Calls.{askedAnswer, BoundedIs, BothIs}
 use Rattle.words.specs.Handed.{intoAnswer, BoundedInto, BothInto}
-use Rattle.words.proofs.OneAnswer.{not-done}
-use Rattle.words.proofs.Written.{first-none, first-more}
+use Rattle.words.proofs.WordsOnce.{not-done}
+use Rattle.words.proofs.WordsWritten.{first-none, first-more}
 
 -- the answer for the points, then room to write to
 module _ (n x y words cells out : ℕ) {a : Answer} (e : a ≡ askedAnswer n x y words) where

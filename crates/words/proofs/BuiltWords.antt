@@ -25,10 +25,10 @@ use Rattle.plan.proofs.SoundFile.{good}
 use Rattle.words.specs.Sets.{Set, wordBits, howMany, Lowest, Highest, Numbers, bit, wordOf}
 use Rattle.words.specs.Calls.{askedAnswer, bounds, pointWord, FirstWords, Reached}
 use Rattle.words.specs.Laws.{BitsOfBuilt, BoundedOfBuilt, BothOfBuilt, Leads, BitsOfJudged}
-use Rattle.words.proofs.Bits.{no-bit, word-lt, word-bit}
-use Rattle.words.proofs.Counts.{same-number}
-use Rattle.words.proofs.Asked.{Room, room-done, done-asked}
-use Rattle.words.proofs.OneAnswer.{clash, not-done, number-below}
+use Rattle.words.proofs.BitsOfWords.{no-bit, word-lt, word-bit}
+use Rattle.words.proofs.BitCounts.{same-number}
+use Rattle.words.proofs.WordAnswers.{Room, room-done, done-asked}
+use Rattle.words.proofs.WordsOnce.{clash, not-done, number-below}
 
 -- ---- the bits
 

@@ -27,12 +27,12 @@ use Rattle.plan.proofs.SoundFile.{good, add-exactly}
 use Rattle.words.specs.Sets.{Set, wordBits, wordOf}
 use Rattle.words.specs.Calls.{askedAnswer, bounds, pointWord, taking, Reached}
 use Rattle.words.specs.Laws.{UpdatedAsAfresh}
-use Rattle.words.proofs.Bits.{same-bits, word-lt}
-use Rattle.words.proofs.Asked.{done-room}
-use Rattle.words.proofs.OneAnswer.{not-done}
-use Rattle.words.proofs.Built.{Build, reached-done, word-bits, built-word, built-asked}
-use Rattle.words.proofs.Built.{Numbered, numbered, bounds-number, number-bounds}
-use Rattle.words.proofs.Updated.{Update, update-done, update-answer, taking-lt, taking-bit}
+use Rattle.words.proofs.BitsOfWords.{same-bits, word-lt}
+use Rattle.words.proofs.WordAnswers.{done-room}
+use Rattle.words.proofs.WordsOnce.{not-done}
+use Rattle.words.proofs.BuiltWords.{Build, reached-done, word-bits, built-word, built-asked}
+use Rattle.words.proofs.BuiltWords.{Numbered, numbered, bounds-number, number-bounds}
+use Rattle.words.proofs.UpdatedWords.{Update, update-done, update-answer, taking-lt, taking-bit}
 
 -- ---- one word
 

@@ -19,7 +19,7 @@ use Rattle.cell.specs.Steps.{cell32, isMark}
 use Rattle.lowering.proofs.Laws.LoopTurns.{read-cell}
 use Rattle.words.specs.Sets.{Set, wordBits, bit, wordOf}
 use Rattle.words.specs.Calls.{bounds, FirstWords, taking}
-use Rattle.words.proofs.Bits.{word-lt, or-word}
+use Rattle.words.proofs.BitsOfWords.{word-lt, or-word}
 
 -- ---- the first words, one by one
 

@@ -19,7 +19,7 @@ use Rattle.words.specs.Sets.{Set, wordBits, howMany, Lowest, Highest, Nu
 use Rattle.words.specs.Calls.{pointWord, FirstWords, Reached, ReachAdded}
 use Rattle.words.specs.Handed.{three, BoundedInto, BothInto}
 use Rattle.words.specs.Laws.{WordOfZero, ReachedOnce, BoundedOnce, BothOnce, ReachAddedOnce, BoundedIntoOnce, BothIntoOnce}
-use Rattle.words.proofs.Bits.{no-bit}
+use Rattle.words.proofs.BitsOfWords.{no-bit}
 
 -- no test both holds and fails
 pub clash : {b : Bool} → b ≡ true → b ≡ false → ⊥
