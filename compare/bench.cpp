@@ -245,14 +245,30 @@ void print(const Report &report) {
 
 // ---- stack ----
 
+// By the calls alone: a contestant has frames of its own.
 void print_stack(const char *name, decltype(&post_judge) judge, decltype(&post_check) check, decltype(&post_add) add, decltype(&post_write) write,
                  const Prepared &p) {
-  std::printf("  %-10s Judge %zu, Check %zu, Add %zu, Write %zu\n", name, stack_of([&] { judging("", judge).call(p); }),
-              stack_of([&] { checking("", check).call(p); }), stack_of([&] { adding("", add).call(p); }),
-              stack_of([&] { writing("", write).call(p); }));
+  const std::size_t judging = stack_of([&] { seen = judge(p.file.data(), p.file.size(), strict, p.cells, open_cells, p.cells); });  // Add's tables
+  std::printf("  %-10s Judge %zu, Check %zu, Add %zu, Write %zu\n", name, judging,
+              stack_of([&] { seen = check(p.file.data(), p.file.size(), p.strict.data(), p.cells, p.open.data(), p.cells); }), stack_of([&] {
+                seen = add(p.file.data(), p.file.size(), p.added.from, p.added.to, std::int32_t(p.added.weight), strict, p.cells, open_cells, p.cells,
+                           scratch, 2 * p.cells);
+              }),
+              stack_of([&] { seen = write_lists(write, p.lists, p.at, buffer, sizeof buffer); }));
 }
 
 // ---- reach words ----
+
+void print_words_stack(const char *name, decltype(&post_reach) reach, decltype(&post_bounded) bounded, decltype(&post_both) both,
+                       decltype(&post_reach_add) reach_add, const Prepared &p) {
+  static std::uint32_t numbers[3];
+  const auto n = std::uint32_t(p.words.size());
+  std::printf("  %-10s Reach %zu, Bounded %zu, Both %zu, Reach after Add %zu\n", name,
+              stack_of([&] { seen = reach(n, p.strict.data(), p.cells, built, most_points); }),
+              stack_of([&] { seen = bounded(n, p.words.data(), n, n - 1, numbers, 3); }),
+              stack_of([&] { seen = both(n, p.words.data(), n, 0, n - 1, built, 1); }),
+              stack_of([&] { seen = reach_add(n, p.added.from, p.added.to, p.words.data(), n); }));
+}
 
 // The update after Add beside building afresh, by the library and in plain C++, and building by both.
 void measure_words(const Budget &budget, int repeats) {
@@ -265,6 +281,7 @@ void measure_words(const Budget &budget, int repeats) {
 #endif
   tables.push_back({{"Reach after Add in plain C++, beside building afresh", columns, "", {}}, {building("afresh", sweep::reach), updating("updated", sweep::reach_add)}});
   tables.push_back({{"Reach", columns, "", {}}, builds});
+  std::vector<Prepared> largest;
   for (std::uint32_t n : {8u, 16u, 32u, 64u}) {
     Random random = row_of(budget.seed, n, 0);
     std::vector<Prepared> plans;
@@ -279,9 +296,15 @@ void measure_words(const Budget &budget, int repeats) {
     char plans_are[80];
     std::snprintf(plans_are, sizeof plans_are, "%u | %.1f | %.1f", n, bounded / 12.0 / n, updated / 12.0);
     for (auto &[report, contestants] : tables) measure(report, plans_are, contestants, plans, repeats);
+    largest = std::move(plans);
   }
   std::printf("\nReach words: 12 plans of n limits a row; x: the ratio to the first column of times in the same repeat. The words take 8 n bytes.\n");
   for (const auto &[report, contestants] : tables) print(report);
+  std::printf("\nBytes of stack that a call on words touches, at n 64\n\n");
+  print_words_stack("plain C++", sweep::reach, sweep::bounded, sweep::both, sweep::reach_add, largest[0]);
+#ifdef WITH_LIBRARY
+  print_words_stack("library", post_reach, post_bounded, post_both, post_reach_add, largest[0]);
+#endif
 }
 
 }  // namespace

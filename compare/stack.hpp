@@ -4,10 +4,11 @@
 #include <cstdint>
 #include <cstring>
 #include <functional>
-#include <pthread.h>
 #include <sys/mman.h>
+#include <ucontext.h>
 
-// Bytes of stack that a call touches below its caller: it is run on a painted stack.
+// Bytes of stack that a call touches below its caller, its return address among them: it is run on a painted stack of its own. That is no thread's,
+// for a thread's own start and end touch more than a small call does, and would hide it.
 inline std::size_t stack_of(const std::function<void()> &call) {
   static const std::function<void()> *running;
   constexpr std::size_t size = 1024 * 1024;
@@ -15,12 +16,13 @@ inline std::size_t stack_of(const std::function<void()> &call) {
     void *stack = mmap(nullptr, size, PROT_READ | PROT_WRITE, MAP_PRIVATE | MAP_ANONYMOUS, -1, 0);
     std::memset(stack, 0xa5, size);
     running = &what;
-    pthread_attr_t attributes;
-    pthread_attr_init(&attributes);
-    pthread_attr_setstack(&attributes, stack, size);
-    pthread_t thread;
-    if (pthread_create(&thread, &attributes, [](void *) -> void * { (*running)(); return nullptr; }, nullptr) != 0) return std::size_t(0);
-    pthread_join(thread, nullptr);
+    ucontext_t here, there;
+    getcontext(&there);
+    there.uc_stack.ss_sp = stack;
+    there.uc_stack.ss_size = size;
+    there.uc_link = &here;
+    makecontext(&there, [] { (*running)(); }, 0);
+    swapcontext(&here, &there);
     const auto *bytes = static_cast<const std::uint8_t *>(stack);
     std::size_t untouched = 0;
     while (untouched < size && bytes[untouched] == 0xa5) ++untouched;
