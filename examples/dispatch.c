@@ -60,14 +60,14 @@ int main(int given, char **word) {
     uint32_t n = file[4]; /* the number of points: of an accepted file it is 1 to 64, so this byte has all of it */
     done(post_reach(n, strict, LENGTH(strict), words, LENGTH(words)), "no words were built");
     for (uint32_t x = 0; x < n; x++) {
-        uint32_t out[3]; /* how many, the lowest, the highest */
+        uint32_t out[3] = {0}; /* how many, the lowest, the highest; what is lent has been written once */
         done(post_bounded(n, words, LENGTH(words), x, out, LENGTH(out)), "what a point bounds was not told");
         if (out[0] == 0) printf("point %u bounds no point\n", (unsigned)x);
         else printf("point %u bounds %u point%s, from %u to %u\n", (unsigned)x, (unsigned)out[0], out[0] == 1 ? "" : "s",
                     (unsigned)out[1], (unsigned)out[2]);
     }
     if (given >= 3) {
-        uint64_t both;
+        uint64_t both = 0;
         done(post_both(n, words, LENGTH(words), (uint32_t)asked[0], (uint32_t)asked[1], &both, 1),
              "what two points both bound was not told");
         printf("points %d and %d both bound:", (int)asked[0], (int)asked[1]);
