@@ -4,15 +4,13 @@ use mathlib.Core.Path.{_≡_, refl, sym, ap, subst, _∙_}
 use mathlib.Core.Bool.{true, false, false≢true}
 use mathlib.Core.List.{List}
 use Prim.Native.Nat.{ℕ, _≤_, _<_}
-use native.Mathlib.Decide.{decLe}
 use native.Mathlib.Omega.{arith}
-use lib.ListN.{length, getD}
-use lib.Seq.{ext-getD}
+use lib.ListN.{length}
 use lib.IntN.{ℤ}
 use Rattle.rules.specs.declared.Answer.{Answer}
 use Rattle.rules.specs.declared.Answer.the-variants.{ReasonsListed}
 use Rattle.rules.specs.Plan.{Plan}
-use Rattle.rules.proofs.Lists.{filled-once}
+use Rattle.rules.proofs.Lists.{same-parts, filled-once}
 use Rattle.chain.specs.Lines.{Line}
 use Rattle.chain.specs.Reasons.{ended, ReasonList}
 use Rattle.chain.specs.Call.{Lists, Column, Listed, Reasoned}
@@ -22,11 +20,9 @@ use Rattle.chain.proofs.OneList.{one}
 
 -- below the list's length a slice holds its part of the lines, from there on what it held before
 column-once : {A : Type 0} {d : A} {part : Line → A} {ls : List Line} {before a b : List A} → Column d part ls before a → Column d part ls before b → a ≡ b
-column-once {A} {d} {part} {ls} {before} {a} {b} p q = ext-getD d a b (p .length-same ∙ sym (q .length-same)) (λ i h. by i (decLe (length ls) i))
-  where
-    by : (i : ℕ) → Dec (length ls ≤ i) → getD a i d ≡ getD b i d
-    by i (yes h) = p .beyond-same i h ∙ sym (q .beyond-same i h)
-    by i (no h) = p .listed i (omega arith) ∙ sym (q .listed i (omega arith))
+column-once {d} {ls} {a} {b} p q =
+    same-parts d (length ls) a b (p .length-same ∙ sym (q .length-same)) (λ i h. p .beyond-same i h ∙ sym (q .beyond-same i h))
+    (λ i h. p .listed i h ∙ sym (q .listed i h))
 
 pub listed-once : {ls : List Line} {t u v : Lists} → Listed ls t u → Listed ls t v → u ≡ v
 listed-once p q =

@@ -32,12 +32,12 @@ numbered-cell m (pos c) = by (eqb c m) refl
 pub cell-injective : (m : ℕ) {a b : ℤ} → cellOf m a ≡ cellOf m b → a ≡ b
 cell-injective m {a} {b} e = sym (numbered-cell m a) ∙ ap (numbered m) e ∙ numbered-cell m b
 
--- two lists of one length that agree below an index and from it on are one list
-pub same-parts : (m : ℕ) (t u : List ℤ) → length t ≡ length u → ((i : ℕ) → m ≤ i → getD t i (pos zero) ≡ getD u i (pos zero))
-    → ((i : ℕ) → i < m → getD t i (pos zero) ≡ getD u i (pos zero)) → t ≡ u
-same-parts m t u e b a = ext-getD (pos zero) t u e (λ i h. at i (decLe m i))
+-- two lists of one length that agree below an index and from it on are one list, whatever they hold
+pub same-parts : {A : Type 0} (d : A) (m : ℕ) (t u : List A) → length t ≡ length u → ((i : ℕ) → m ≤ i → getD t i d ≡ getD u i d)
+    → ((i : ℕ) → i < m → getD t i d ≡ getD u i d) → t ≡ u
+same-parts d m t u e b a = ext-getD d t u e (λ i h. at i (decLe m i))
   where
-    at : (i : ℕ) → Dec (m ≤ i) → getD t i (pos zero) ≡ getD u i (pos zero)
+    at : (i : ℕ) → Dec (m ≤ i) → getD t i d ≡ getD u i d
     at i (yes h) = b i h
     at i (no h) = a i (omega arith)
 
@@ -47,7 +47,7 @@ pub same-list : (r : Ranges) (n : ℕ) (t u : List ℤ) → length t ≡ length 
     → ((x y : ℕ) → x < n → y < n → tableOf r n t x y ≡ tableOf r n u x y) → t ≡ u
 unfolding tableOf
 same-list r n t u e b c =
-    same-parts (n * n) t u e b
+    same-parts (pos zero) (n * n) t u e b
     (λ i h.
     let s : Spot n i = spot n i h in
     subst (λ (k : ℕ). getD t k (pos zero) ≡ getD u k (pos zero)) (sym (s .is))
@@ -56,7 +56,7 @@ same-list r n t u e b c =
 -- a list is filled with one number in one way
 pub filled-once : {m : ℕ} {c : ℤ} {t u v : List ℤ} → Filled m c t u → Filled m c t v → u ≡ v
 filled-once {m} {u} {v} a b =
-    same-parts m u v (a .kept .length-same ∙ sym (b .kept .length-same)) (λ i h. a .kept .beyond-same i h ∙ sym (b .kept .beyond-same i h))
+    same-parts (pos zero) m u v (a .kept .length-same ∙ sym (b .kept .length-same)) (λ i h. a .kept .beyond-same i h ∙ sym (b .kept .beyond-same i h))
     (λ i h. a .all-same i h ∙ sym (b .all-same i h))
 
 -- two lists that keep what lies past the table, and hold the same table

@@ -132,7 +132,7 @@ module _ (r : Ranges) (file : Answer) (p : Plan) (g : file ≡ Done → InRange 
   times-once : {strict weak s w times t₁ t₂ : List ℤ} → file ≡ Done → Written r p strict weak s w → TimesOf r p s times t₁
       → TimesOf r p s times t₂ → t₁ ≡ t₂
   times-once {s} {t₁} {t₂} e t a b =
-      same-parts (p .points) t₁ t₂ (a .times-kept .length-same ∙ sym (b .times-kept .length-same))
+      same-parts (pos zero) (p .points) t₁ t₂ (a .times-kept .length-same ∙ sym (b .times-kept .length-same))
       (λ i h. a .times-kept .beyond-same i h ∙ sym (b .times-kept .beyond-same i h))
       (λ i h.
       let c : (c : ℤ) × (tableOf r (p .points) s i zero ≡ num c) = start-number (t .tables) (pointed e) i h in

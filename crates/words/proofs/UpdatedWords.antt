@@ -9,11 +9,11 @@ use native.Mathlib.Omega.{arith}
 use lib.ListN.{length}
 use Rattle.rules.specs.declared.Answer.{Answer}
 use Rattle.rules.specs.declared.Answer.the-variants.{Done}
+use Rattle.rules.proofs.Lists.{same-parts}
 use Rattle.words.specs.Sets.{wordBits, bit, wordOf}
 use Rattle.words.specs.Calls.{askedAnswer, pointWord, taking, FirstWords, ReachAdded}
 use Rattle.words.specs.Laws.{UpdatedTwice, UpdatedInAnyOrder}
 use Rattle.words.proofs.BitsOfWords.{same-bits, word-lt, word-bit}
-use Rattle.words.proofs.WordsOnce.{same-words}
 use Rattle.words.proofs.WordAnswers.{Asked, asked-done}
 
 -- ---- what Update did where it answers Done
@@ -98,13 +98,12 @@ updated-twice n x y words words₁ words₂ a b (ReachAdded.updated e d) (ReachA
     let q : Asked n x y (length words) = asked-done e in
     let hx : x < wordBits = omega (arith, q .first, q .few) in (
       refl,
-      same-words n words₂ words₁ (g .length-same)
+      same-parts 0 n words₂ words₁ (g .length-same) (g .beyond-same)
           (λ i h.
           g .first i h
           ∙ ap₂ (taking x) (d .first y (q .second)) (d .first i h)
           ∙ word-twice x (pointWord words y) (pointWord words i) hx
-          ∙ sym (d .first i h))
-          (g .beyond-same),
+          ∙ sym (d .first i h)),
     )
 
 -- ---- two updates in either order
@@ -172,16 +171,16 @@ updated-in-any-order n x y x′ y′ words one two one-two two-one a b c d =
     let hy′ : y′ < n = r .asked .second in
     let hx : x < wordBits = omega (arith, p .asked .first, p .asked .few) in
     let hx′ : x′ < wordBits = omega (arith, r .asked .first, r .asked .few) in
-    same-words n one-two two-one
+    same-parts 0 n one-two two-one
     (q .words-are .length-same ∙ p .words-are .length-same ∙ sym (r .words-are .length-same) ∙ sym (s .words-are .length-same))
+    (λ i h.
+    q .words-are .beyond-same i h
+    ∙ p .words-are .beyond-same i h
+    ∙ sym (r .words-are .beyond-same i h)
+    ∙ sym (s .words-are .beyond-same i h))
     (λ i h.
     q .words-are .first i h
     ∙ ap₂ (taking x′) (p .words-are .first y′ hy′) (p .words-are .first i h)
     ∙ either-order x x′ (pointWord words y) (pointWord words y′) (pointWord words i) hx hx′
     ∙ sym (ap₂ (taking x) (r .words-are .first y hy) (r .words-are .first i h))
     ∙ sym (s .words-are .first i h))
-    (λ i h.
-    q .words-are .beyond-same i h
-    ∙ p .words-are .beyond-same i h
-    ∙ sym (r .words-are .beyond-same i h)
-    ∙ sym (s .words-are .beyond-same i h))

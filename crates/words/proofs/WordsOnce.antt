@@ -9,14 +9,13 @@ use native.Mathlib.Nat.{eq-or-lt-of-le}
 use native.Mathlib.Omega.{arith}
 use native.Mathlib.Decide.{decLe}
 use lib.Dec.{eqb}
-use lib.ListN.{length}
-use lib.Seq.{ext-getD}
 use Rattle.rules.specs.Answers.{codeOf}
 use Rattle.rules.specs.declared.Answer.{Answer}
 use Rattle.rules.specs.declared.Answer.the-variants.{Done}
+use Rattle.rules.proofs.Lists.{same-parts}
 use Rattle.answers.proofs.CodeZero.{code-zero}
 use Rattle.words.specs.Sets.{Set, wordBits, howMany, Lowest, Highest, Numbers, bit}
-use Rattle.words.specs.Calls.{pointWord, FirstWords, Reached, ReachAdded}
+use Rattle.words.specs.Calls.{FirstWords, Reached, ReachAdded}
 use Rattle.words.specs.Handed.{three, BoundedInto, BothInto}
 use Rattle.words.specs.Laws.{WordOfZero, ReachedOnce, BoundedOnce, BothOnce, ReachAddedOnce, BoundedIntoOnce, BothIntoOnce}
 use Rattle.words.proofs.BitsOfWords.{no-bit}
@@ -39,20 +38,11 @@ done-or-not a = by (eqb (codeOf a) 0) refl
 
 -- ---- lent words
 
--- two lists of one length with the same first n words, and the same from there on, are one list
-pub same-words : (n : ℕ) (u v : List ℕ) → length u ≡ length v → ((i : ℕ) → i < n → pointWord u i ≡ pointWord v i)
-    → ((i : ℕ) → n ≤ i → pointWord u i ≡ pointWord v i) → u ≡ v
-same-words n u v e a b = ext-getD 0 u v e (λ i h. at i (decLe n i))
-  where
-    at : (i : ℕ) → Dec (n ≤ i) → pointWord u i ≡ pointWord v i
-    at i (yes h) = b i h
-    at i (no h) = a i (omega arith)
-
--- so the first n words are written in one way
+-- the first n words are written in one way
 pub first-words-once : {n : ℕ} {new : ℕ → ℕ} {words u v : List ℕ} → FirstWords n new words u → FirstWords n new words v → u ≡ v
 first-words-once {n} {u} {v} f g =
-    same-words n u v (f .length-same ∙ sym (g .length-same)) (λ i h. f .first i h ∙ sym (g .first i h))
-    (λ i h. f .beyond-same i h ∙ sym (g .beyond-same i h))
+    same-parts 0 n u v (f .length-same ∙ sym (g .length-same)) (λ i h. f .beyond-same i h ∙ sym (g .beyond-same i h))
+    (λ i h. f .first i h ∙ sym (g .first i h))
 
 -- ---- the numbers of a set
 
