@@ -98,6 +98,23 @@ static inline uint32_t post_code_of(uint64_t answer) { return (uint32_t)answer; 
 static inline uint32_t post_place_of(uint64_t answer) { return (uint32_t)(answer >> 32); }
 
 /*
+ * Sound: whether a plan file is sound. A post asks when it stores a plan, in the afternoon say, and judges it at night.
+ *
+ *   0        the file is a plan file: its header, its layout, and every limit and link are as laid down. Whether the
+ *            plan can be carried out is for post_judge to say
+ *   1 to 8   the file is refused
+ *
+ * The answer is of the bytes as they are in this call. Flash can change, so every other call that is lent a file looks at
+ * it again, whatever was answered before: post_judge refuses a file that is not sound then with the very code and place
+ * that post_sound would give it then, and no cell changes. Where the file is still the one that got 0 here, and both
+ * tables have room, post_judge answers 0 or 11 and nothing else.
+ *
+ * Lent: the file (file_len bytes). Nothing is written, and no other room is needed.
+ * Time: one look at each limit and each link; a link also looks back over the earlier ones, at most 31.
+ */
+uint64_t post_sound(const uint8_t *file, size_t file_len);
+
+/*
  * Check: whether two tables that somebody sent are closed for a plan file.
  *
  *   0        accepted. The tables are closed for the plan: no limit, no link and no sum along a middle point would
@@ -119,7 +136,7 @@ uint64_t post_check(const uint8_t *file, size_t file_len, const int32_t *strict,
  *
  *   0        the plan can be carried out however long each download and restart takes within its bounds. The first
  *            n x n cells of both tables are the least totals; post_check accepts them with the same file
- *   1 to 8   the file is refused; no cell changes
+ *   1 to 8   the file is refused, as post_sound refuses it; no cell changes
  *   9        a table has fewer than n x n cells; no cell changes
  *   11       the plan cannot be carried out for every choice of durations: whatever is done, there are durations within
  *            their bounds, known only once they have passed, for which a limit is broken. Without links: no timetable

@@ -17,6 +17,7 @@ use crate::timing::earliest;
 use adding::add;
 use answers::code;
 use answers::place;
+use plan::sound;
 use reasons::reasons;
 use rests::rests;
 use rules::Answer;
@@ -27,6 +28,14 @@ pub fn packed(a: Answer) -> u64
     ensures { λ r. ⌜ r ≡ packedOf a ⌝ }
 {
     (code(a) as u64) + 4294967296 * (place(a) as u64)
+}
+
+// Sound.
+#[no_mangle]
+pub extern "C" fn post_sound(file: &[u8]) -> u64
+    ensures { λ r. ⌜ r ≡ packedOf (fileAnswer (now (file .entry))) ⌝ }
+{
+    packed(sound(file))
 }
 
 // Check.
