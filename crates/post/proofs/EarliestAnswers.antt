@@ -55,12 +55,12 @@ module _ (s : List ℕ) (h : Header) (e : h ≡ headOf s) (strict weak times : L
       calls.Timed.has-links (q .sound) room (omega (arith, header-points s e)) (λ z. n (sym links ∙ ap (λ (ks : List Link). length ks) z))
 
   -- the header of a file without links
-  pub ready-no-links : h .links ≡ 0 → Ready s (h .points) (h .limits) 0
+  pub ready-no-links : h .links ≡ 0 → Ready s (h .points) (headOf s .limits) 0
   ready-no-links z =
       record {
         sound = q .sound;
         points = ap (λ (x : Header). x .points) e;
-        limits = ap (λ (x : Header). x .limits) e;
+        limits = refl;
         links = sym z ∙ ap (λ (x : Header). x .links) e;
       }
 

@@ -15,7 +15,7 @@ use plan::sound;
 use rules::Answer;
 use tables::settle;
 
-// What comes before the work: the file's own code, then room for two tables of so many cells.
+// What comes before the work: Sound, then room for two tables of so many cells.
 pub fn lent(file: &[u8], strict: usize, open: usize) -> Answer
     ensures { λ r. ⌜ Lent (now (file .entry)) strict «open» r ⌝ }
 {
@@ -36,7 +36,7 @@ pub fn lent(file: &[u8], strict: usize, open: usize) -> Answer
 }
 
 // Judge of a sound file with room: the plan's tables, or the mark in every cell of both.
-pub fn judge_sound(
+fn judge_sound(
     file: &[u8],
     n: usize,
     m: u32,
@@ -55,7 +55,7 @@ pub fn judge_sound(
     Answer::NotControllable
 }
 
-// Judge.
+// Judge. It looks at the file itself, whatever Sound said of it before: since then it may have changed.
 pub fn judge(file: &[u8], strict: &mut [i32], open: &mut [i32]) -> Answer
     ensures { λ r. ⌜ Judged version1 (fileAnswer (now (file .entry))) (planOf (now (file .entry))) (now (strict .entry)) (now («open» .entry)) r (now (strict .exit)) (now («open» .exit)) ⌝ }
 {

@@ -4,10 +4,10 @@ ghost use Prim.Native.Nat.{_*_, _≤_};
 ghost use lib.ListN.{length};
 ghost use Rattle.rules.specs.Plan.{version1};
 ghost use Rattle.rules.specs.Calls.{Timed};
-ghost use Rattle.plan.specs.Layout.{planOf};
+ghost use Rattle.plan.specs.Layout.{headOf, planOf};
 ghost use Rattle.plan.specs.File.{fileAnswer};
 ghost use Rattle.lowering.specs.Table.{Ready};
-use crate::judging::judge_sound;
+use crate::judging::judge;
 use crate::judging::lent;
 use answers::accepted;
 use plan::head;
@@ -18,15 +18,14 @@ use tables::times_all;
 fn timed(
     file: &[u8],
     n: usize,
-    m: u32,
     strict: &mut [i32],
     open: &mut [i32],
     times: &mut [i32],
 ) -> Answer
-    requires { ⌜ Ready (now file) n m 0 × (n * n ≤ length (now strict)) × (n * n ≤ length (now «open»)) × (n ≤ length (now times)) ⌝ }
+    requires { ⌜ Ready (now file) n (headOf (now file) .limits) 0 × (n * n ≤ length (now strict)) × (n * n ≤ length (now «open»)) × (n ≤ length (now times)) ⌝ }
     ensures { λ r. ⌜ Timed version1 (fileAnswer (now (file .entry))) (planOf (now (file .entry))) (now (strict .entry)) (now («open» .entry)) (now (times .entry)) r (now (strict .exit)) (now («open» .exit)) (now (times .exit)) ⌝ }
 {
-    let a = judge_sound(file, n, m, 0, strict, open);
+    let a = judge(file, strict, open);
     if !accepted(a) {
         return a;
     }
@@ -34,7 +33,7 @@ fn timed(
     Answer::Done
 }
 
-// Earliest.
+// Earliest: the pair, Sound and then Judge, with its own tests between them. Sound comes first in `lent`.
 pub fn earliest(file: &[u8], strict: &mut [i32], open: &mut [i32], times: &mut [i32]) -> Answer
     ensures { λ r. ⌜ Timed version1 (fileAnswer (now (file .entry))) (planOf (now (file .entry))) (now (strict .entry)) (now («open» .entry)) (now (times .entry)) r (now (strict .exit)) (now («open» .exit)) (now (times .exit)) ⌝ }
 {
@@ -51,5 +50,5 @@ pub fn earliest(file: &[u8], strict: &mut [i32], open: &mut [i32], times: &mut [
     if links != 0 {
         return Answer::HasLinks;
     }
-    timed(file, n, h.limits, strict, open, times)
+    timed(file, n, strict, open, times)
 }

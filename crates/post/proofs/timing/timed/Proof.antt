@@ -7,7 +7,7 @@ use Rattle.post.proofs.timing.timed.Tie as tie
 
 times-all-requires : tie.Need-times-all-requires
 times-all-requires c κs =
-    let written = written-of (c .before .before .before .before .before .before .judge-sound .ensures) (search is-accepted) in
+    let written = written-of (c .before .before .before .before .before .before .judge .ensures) (search is-accepted) in
     search (few, written-sound)
 
 pub timed-spec : {M : Type 1} → statement M
