@@ -4,10 +4,10 @@
     python3 tools/paper_cases.py
 
 writes crates/cases/stdin and crates/cases/stdout. An entry of stdin is twelve bytes, the lengths of a name and of a file and the number
-of limits to add, then the name, the file and the limits, twelve bytes each. Of each entry stdout has the name, Judge's code and place
-and, with 0, both tables; Check's code and place for the tables that Judge left; of each limit that is then added to those tables, one
-after the other, the limit, Add's code and place, both tables after it, and how many cells of a scratch of 7s are 0 from the first one on
-and how many behind those are still 7; Earliest's code and place and, with 0, the times.
+of limits to add, then the name, the file and the limits, twelve bytes each. Of each entry stdout has the name; Sound's code and place;
+Judge's code and place and, with 0, both tables; Check's code and place for the tables that Judge left; of each limit that is then added to
+those tables, one after the other, the limit, Add's code and place, both tables after it, and how many cells of a scratch of 7s are 0 from
+the first one on and how many behind those are still 7; Earliest's code and place and, with 0, the times.
 
 Nothing here comes from the library: the plans and what is said of them are document 01's "Plans to try" and document 02's, with others
 about them; the tables are found by the rounds over the rules of tried_tables.py, Add's too, and codes 1 to 8 are those of
@@ -100,6 +100,7 @@ def lines(name, data, n, limits, links, more):
     """What is printed of an entry."""
     code, strict, weak = judged(data, n, limits, links)
     yield name
+    yield "sound %d %d" % of_file(data)
     yield "judge %d %d" % code
     if code == (0, 0):
         yield from both(n, strict, weak)

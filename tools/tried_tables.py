@@ -4,7 +4,7 @@
     python3 tools/tried_tables.py
 
 writes crates/checks/stdin and crates/checks/stdout. An entry of stdin is twelve bytes, the file's length and how many cells the strict and
-the open table have, then the file, then the cells of both. Of each entry stdout has a line: Check's code and place.
+the open table have, then the file, then the cells of both. Of each entry stdout has a line: Sound's code and place, then Check's.
 
 Nothing here comes from the library. `tables` finds a plan's tables by rounds over the rules until nothing changes, `closed` is the
 rule paper's sentence "Tables are closed for a plan if ..", and codes 1 to 8 are those of damaged_files.py. The tables that the paper
@@ -212,7 +212,7 @@ def main():
         stdin += struct.pack("<3I", len(data), len(strict), len(weak)) + data + struct.pack("<%di" % (len(strict) + len(weak)), *strict, *weak)
         code, place = answer(data, n, limits, links, strict, weak)
         codes[code] = codes.get(code, 0) + 1
-        stdout += "%d %d\n" % (code, place)
+        stdout += "%d %d %d %d\n" % (*of_file(data), code, place)
     folder = os.path.join(os.path.dirname(os.path.abspath(__file__)), "..", "crates", "checks")
     with open(os.path.join(folder, "stdin"), "wb") as file:
         file.write(stdin)

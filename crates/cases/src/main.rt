@@ -1,8 +1,8 @@
-// The plans of documents 01 and 02, through the calls. Reads entries from standard input and prints of each: its name; Judge's code and place and, with 0,
-// both tables; Check's code and place for the tables that Judge left; of each limit that is then added to those tables, one after the other, the
-// limit, Add's code and place, both tables after it, and what it left in the scratch; Earliest's code and place and, with 0, the times. An entry is
-// twelve bytes, the lengths of a name and of a file and the number of limits to add, then the name, the file and the limits, each as a file has
-// it; the repository's tools/paper_cases.py makes the input and what is to be printed.
+// The plans of documents 01 and 02, through the calls. Reads entries from standard input and prints of each: its name; Sound's code and place; Judge's
+// code and place and, with 0, both tables; Check's code and place for the tables that Judge left; of each limit that is then added to those tables,
+// one after the other, the limit, Add's code and place, both tables after it, and what it left in the scratch; Earliest's code and place and, with
+// 0, the times. An entry is twelve bytes, the lengths of a name and of a file and the number of limits to add, then the name, the file and the
+// limits, each as a file has it; the repository's tools/paper_cases.py makes the input and what is to be printed.
 ghost use mathlib.Core.Path.{_≡_};
 ghost use Prim.Native.Nat.{_≤_, _<_};
 ghost use lib.IntN.{natAbs};
@@ -148,10 +148,12 @@ fn added_all(file: &[u8], limits: &[u8], strict: &mut [i32], open: &mut [i32]) {
     }
 }
 
-// Judge of a file, Check of the file with the tables that Judge left, and limits added to them.
+// Sound and Judge of a file, Check of the file with the tables that Judge left, and limits added to them. Judge is asked of a file that Sound refuses
+// too: it has to refuse it by itself.
 fn judged(file: &[u8], limits: &[u8]) {
     let mut strict = [0i32; 4096];
     let mut open = [0i32; 4096];
+    print(b"sound", post::sound(file));
     let a = post::judge(file, &mut strict, &mut open);
     print(b"judge", a);
     if accepted(a) {

@@ -1,5 +1,5 @@
-// Reads plan files with two tables each from standard input, and prints of each a line: Check's code and place. An entry is twelve bytes, the
-// file's length and how many cells the strict and the open table have, then the file, then the cells of both; the repository's
+// Reads plan files with two tables each from standard input, and prints of each a line: Sound's code and place, and then Check's. An entry is twelve
+// bytes, the file's length and how many cells the strict and the open table have, then the file, then the cells of both; the repository's
 // tools/tried_tables.py makes the input and what is to be printed.
 ghost use Prim.Native.Nat.{_+_, _*_, _≤_, _<_};
 ghost use lib.ListN.{length};
@@ -11,12 +11,12 @@ use libc::STDIN_FILENO;
 use libc::STDOUT_FILENO;
 use rules::Answer;
 
-// Prints code and place of an answer, on a line.
-fn print(a: Answer) {
+// Prints code and place of an answer, and what ends them.
+fn print(a: Answer, end: &[u8]) {
     io::print_decimal(STDOUT_FILENO, code(a) as u64);
     io::write_all(STDOUT_FILENO, b" ");
     io::print_decimal(STDOUT_FILENO, place(a) as u64);
-    io::write_all(STDOUT_FILENO, b"\n");
+    io::write_all(STDOUT_FILENO, end);
 }
 
 // Puts the cells at a position into a table.
@@ -38,7 +38,8 @@ fn line(all: &[u8], file: &[u8], at: usize, first: usize, second: usize)
     let mut open = [0i32; 4096];
     take(all, at, first, &mut strict);
     take(all, at + 4 * first, second, &mut open);
-    print(post::check(file, &strict[..first], &open[..second]));
+    print(post::sound(file), b" ");
+    print(post::check(file, &strict[..first], &open[..second]), b"\n");
 }
 
 // Prints the line of the entry at a position, and answers where the next one begins. What does not fit ends the input.

@@ -1,5 +1,5 @@
 -- The first demand holds. Assumes nothing.
-use mathlib.Core.Path.{_≡_, refl, sym, _∙_}
+use mathlib.Core.Path.{_≡_, refl, sym, subst⁻¹, _∙_}
 use mathlib.Core.Logic.{_≢_, _⊎_, inl, inr, ⊎-elim}
 use mathlib.Core.Bool.{Bool, true, false, _&&_}
 use mathlib.Core.List.{List, []}
@@ -23,7 +23,7 @@ use Rattle.rules.proofs.Rows.{fitting, row-empty, row-length, row-cell}
 use Rattle.plan.specs.Layout.{planOf}
 use Rattle.plan.specs.File.{fileAnswer, addAnswer}
 use Rattle.plan.proofs.SoundFile.{good, add-exactly}
-use Rattle.demands.specs.Demand1.{JudgeLeaves, CheckLeaves, EarliestLeaves, AddLeaves, RowLeaves, Demand1}
+use Rattle.demands.specs.Demand1.{SoundLeaves, JudgeLeaves, CheckLeaves, EarliestLeaves, AddLeaves, RowLeaves, Demand1}
 use Rattle.demands.proofs.FileCodes.{place-named, FileCode, file-code, add-code}
 
 -- a list that stays keeps what lies past any room
@@ -52,6 +52,10 @@ refusal (ReasonsListed lines) n = omega arith
 refusal NotClosed n = omega arith
 
 module _ (s : List ℕ) where
+  sound-leaves : {a : Answer} → a ≡ fileAnswer s → SoundLeaves a
+  sound-leaves e =
+      subst⁻¹ SoundLeaves e (record { code = file-code s; place = place-named (fileAnswer s) (omega (arith, file-code s)) })
+
   judge-leaves : (file : Answer) → FileCode file → (strict weak : List ℤ) (a : Answer) (strict′ weak′ : List ℤ)
       → Judged version1 file (planOf s) strict weak a strict′ weak′ → JudgeLeaves s strict weak a strict′ weak′
   judge-leaves file f strict weak a strict′ weak′ (Judged.bad-file n) =
@@ -263,6 +267,8 @@ module _ (strict weak : RefT (List ℤ)) (n x : ℕ) (which : Side) (part : RefT
 pub demand1 : Demand1
 demand1 =
     record {
+      sound = λ s a e. sound-leaves s e;
+      sound-once = λ s a b x y. x ∙ sym y;
       judge = λ s. judge-leaves s (fileAnswer s) (file-code s);
       judge-once = λ s strict weak a b s₁ s₂ w₁ w₂ x y.
           let e = judged-once version1 (fileAnswer s) (planOf s) (in-range s) x y in

@@ -17,10 +17,16 @@ use Rattle.rules.specs.Calls.{cellsOf, scratchOf, Kept, Filled, Marked, Judged,
 use Rattle.rules.specs.Rows.{chosen, hasRow, OwnCells, RowHanded}
 use Rattle.plan.specs.Layout.{planOf}
 use Rattle.plan.specs.File.{fileAnswer, addAnswer}
+use Rattle.demands.specs.Programs.{ourSound}
 
 -- "Place is 0 unless named": of these calls only codes 6, 7 and 8 name one
 abbrev pub PlaceNamed : Answer → Type 0
 PlaceNamed a = (placeOf a ≡ 0) ⊎ ((6 ≤ codeOf a) × (codeOf a ≤ 8))
+
+-- Sound: codes 1 to 8, 0. Document 02, item 7: "one call says whether the file is sound (codes 1 to 8)"; it is lent nothing that it could write.
+pub record SoundLeaves (a : Answer) : Type 0 where
+  pub code : codeOf a ≤ 8
+  pub place : PlaceNamed a
 
 -- Judge: codes 1 to 9, 11, 0. "Judge with 11 .. fill the first n x n cells of both tables with the mark; their other refusals change no cell."
 pub record JudgeLeaves (s : List ℕ) (strict weak : List ℤ) (a : Answer) (strict′ weak′ : List ℤ) : Type 0 where
@@ -71,9 +77,11 @@ pub data RowLeaves (strict weak : RefT (List ℤ)) (n x : ℕ) (which : Side) (p
   nothing : ((n < 1) ⊎ (version1 .points < n)) ⊎ ((n ≤ x) ⊎ ((length (now strict) < n * n) ⊎ (length (now weak) < n * n))) → now part ≡ []
       → RowLeaves strict weak n x which part
 
--- the four calls of document 01, and row access; and two answers to the same input are equal, in code, place and every lent cell, two parts in
+-- Sound, the four calls of document 01, and row access; and two answers to the same input are equal, in code, place and every lent cell, two parts in
 -- their numbers and, where there is a row, in where they lie
 pub record Demand1 : Type 0 where
+  pub sound : (s : List ℕ) (a : Answer) → ourSound s a → SoundLeaves a
+  pub sound-once : (s : List ℕ) (a b : Answer) → ourSound s a → ourSound s b → a ≡ b
   pub judge : (s : List ℕ) (strict weak : List ℤ) (a : Answer) (strict′ weak′ : List ℤ)
       → Judged version1 (fileAnswer s) (planOf s) strict weak a strict′ weak′ → JudgeLeaves s strict weak a strict′ weak′
   pub judge-once : (s : List ℕ) (strict weak : List ℤ) (a b : Answer) (s₁ s₂ w₁ w₂ : List ℤ)

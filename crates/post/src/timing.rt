@@ -15,13 +15,7 @@ use rules::Answer;
 use tables::times_all;
 
 // Earliest of a sound file without links, with room: Judge, and the times where it is done.
-fn timed(
-    file: &[u8],
-    n: usize,
-    strict: &mut [i32],
-    open: &mut [i32],
-    times: &mut [i32],
-) -> Answer
+fn timed(file: &[u8], n: usize, strict: &mut [i32], open: &mut [i32], times: &mut [i32]) -> Answer
     requires { ⌜ Ready (now file) n (headOf (now file) .limits) 0 × (n * n ≤ length (now strict)) × (n * n ≤ length (now «open»)) × (n ≤ length (now times)) ⌝ }
     ensures { λ r. ⌜ Timed version1 (fileAnswer (now (file .entry))) (planOf (now (file .entry))) (now (strict .entry)) (now («open» .entry)) (now (times .entry)) r (now (strict .exit)) (now («open» .exit)) (now (times .exit)) ⌝ }
 {

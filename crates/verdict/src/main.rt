@@ -1,10 +1,27 @@
 // The small program: one plan file from standard input to `controllable` or `refused CODE PLACE`, and a line feed.
+ghost use Rattle.rules.specs.Plan.{version1};
+ghost use Rattle.rules.specs.Calls.{Judged};
+ghost use Rattle.plan.specs.Layout.{planOf};
+ghost use Rattle.plan.specs.File.{fileAnswer};
 use answers::accepted;
 use answers::code;
 use answers::place;
 use libc::STDIN_FILENO;
 use libc::STDOUT_FILENO;
+use post::judge;
+use post::sound;
 use rules::Answer;
+
+// The pair: whether the file is sound, and only then its tables. It answers what Judge alone would.
+fn answer(file: &[u8], strict: &mut [i32], open: &mut [i32]) -> Answer
+    ensures { λ r. ⌜ Judged version1 (fileAnswer (now (file .entry))) (planOf (now (file .entry))) (now (strict .entry)) (now («open» .entry)) r (now (strict .exit)) (now («open» .exit)) ⌝ }
+{
+    let a = sound(file);
+    if !accepted(a) {
+        return a;
+    }
+    judge(file, strict, open)
+}
 
 // Writes the verdict of an answer.
 fn write_verdict(a: Answer) {
@@ -26,5 +43,5 @@ fn main() {
     let mut strict = [0i32; 4096];
     let mut open = [0i32; 4096];
     let got = io::read_full(STDIN_FILENO, &mut file);
-    write_verdict(post::judge(&file[..got], &mut strict, &mut open));
+    write_verdict(answer(&file[..got], &mut strict, &mut open));
 }
