@@ -19,9 +19,14 @@ refused : (s : List ℕ) (strict weak : List ℤ) {a : Answer} → a ≡ fileAns
     → Judged version1 (fileAnswer s) (planOf s) strict weak a strict weak
 refused s strict weak e n = subst⁻¹ (λ (x : Answer). Judged version1 (fileAnswer s) (planOf s) strict weak x strict weak) e (Judged.bad-file n)
 
+returns : tie.Need-returns
+returns c =
+    let sound = c .before .before .sound .ensures in
+    refused _ _ _ sound (not-accepted _ sound (c .before .accepted .ensures) (c .if1 .taken))
+
 pub answer-spec : {M : Type 1} → statement M
 answer-spec =
     tie.close
     (tie.spec (λ c κs. search needs) (λ c κs. search needs)
-    (λ c. search (refused, not-accepted))
+    returns
     (λ c κs. search needs) (λ c. search needs) (λ c. search needs) (λ c. search needs))
