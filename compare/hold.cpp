@@ -22,11 +22,6 @@ std::uint64_t run(const Calls &calls, const Case &lent, const std::uint8_t *file
                    lent.open.size(), scratch, lent.scratch.size());
 }
 
-const char *name_of(Call call) {
-  static const char *const names[] = {"Sound", "Judge", "Check", "Add", "Earliest"};
-  return names[std::size_t(call)];
-}
-
 // ---- printing ----
 
 void print_side(const char *name, const Case &left, std::uint64_t answer, std::size_t points) {
@@ -55,6 +50,11 @@ void print_side(const char *name, const Case &left, std::uint64_t answer, std::s
 }
 
 }  // namespace
+
+const char *name_of(Call call) {
+  static const char *const names[] = {"Sound", "Judge", "Check", "Add", "Earliest"};
+  return names[std::size_t(call)];
+}
 
 Outcome run_both(const Case &lent) {
   static const Ground grounds[5];

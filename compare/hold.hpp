@@ -9,6 +9,7 @@
 
 enum class Call { sound, judge, check, add, earliest };
 constexpr std::size_t call_count = 5;
+const char *name_of(Call call);
 
 // One call and all that it is lent. A vector's length is the room lent. `past` is how many sentinels lie between the end of each room and memory
 // that cannot be touched: 0 catches reads past the end, more than 0 shows what was written there. Behind the file there are `behind` more: a file that is

@@ -1,6 +1,6 @@
 // The file changes between the two calls, as document 02's item 7 fears: "since flash can change". A plan is stored and Sound says 0. Then its bytes change
-// where they lie, and Judge must answer what the reference says of them as they are now, with every cell as the reference leaves it; Sound and one of the
-// other calls are asked again behind it. A story has one such night or several, all in the same memory: what the calls answered before must not matter.
+// where they lie, and Judge must answer what the reference says of them as they are now, with every cell as the reference leaves it; Sound is asked again
+// behind it, and one of the other calls behind or before it. A story has one such night or several, all in the same memory: what the calls answered before must not matter.
 // First nights whose answers stand here, then random ones.
 #include <algorithm>
 #include <array>
@@ -14,9 +14,10 @@ namespace {
 using Bytes = std::vector<std::uint8_t>;
 using Cells = std::vector<std::int32_t>;
 
-// What lies there at night, and all that Judge is lent with it; then the same bytes with what another call is lent.
+// What lies there at night, and all that Judge is lent with it; and the same bytes with what another call is lent.
 struct Night {
   Case judge, other;
+  bool other_first = false;
 };
 
 struct Story {
@@ -60,6 +61,9 @@ Played play(const Story &story) {
   for (std::size_t i = 0; i < story.nights.size() && played.difference.empty(); ++i) {
     const std::string when = "in night " + std::to_string(i + 1) + ", ";
     const Night &night = story.nights[i];
+    Outcome other;
+    const auto ask_other = [&] { other = run_both(night.other), see(when + name_of(night.other.call) + ": ", other.difference); };
+    if (night.other_first) ask_other();
     const Outcome judge = run_both(night.judge);
     see(when + "Judge: ", judge.difference);
     Case again = night.judge;
@@ -67,8 +71,7 @@ Played play(const Story &story) {
     const Outcome sound = run_both(again);
     see(when + "Sound: ", sound.difference);
     if (played.difference.empty()) see(when, pair_broken({sound.got, judge.got}, night.judge, judge.left));
-    const Outcome other = run_both(night.other);
-    see(when + "another call: ", other.difference);
+    if (!night.other_first) ask_other();
     played.judged.push_back(judge.wanted), played.sound.push_back(sound.wanted), played.other.push_back(other.wanted);
     played.left.push_back(judge.left);
   }
@@ -343,6 +346,7 @@ Night lend_night(Random &random, const Bytes &file, const Plan &plan, Drawn &dra
   night.other.added = random_limit(random, plan);
   const bool own = night.other.call != Call::earliest && drawn.stored.answer == 0 && random.one_in(2);
   if (own) night.other.strict = drawn.stored.strict, night.other.open = drawn.stored.open;
+  night.other_first = random.one_in(3);
   drawn.own_tables.push_back(own);
   return night;
 }
@@ -398,6 +402,8 @@ struct Found {
       nights.count("refused behind a night with 0", refused && i > 0 && played.judged[i - 1] == 0);
       nights.count("stored bytes back behind a refused night", i > 0 && drawn.back[i] && played.sound[i - 1] != 0 && (code == 0 || code == 11));
       const auto other = [&](Call call, std::uint32_t wanted) { return night.other.call == call && played.other[i] == wanted; };
+      for (Call call : {Call::check, Call::add, Call::earliest})
+        nights.count("refused by " + std::string(name_of(call)) + " before Judge", refused && night.other_first && night.other.call == call);
       nights.count("Check of the stored plan's tables, 0", drawn.own_tables[i] && other(Call::check, 0));
       nights.count("Check of the stored plan's tables, 12 for what lies there now", drawn.own_tables[i] && other(Call::check, 12));
       nights.count("Add to the stored plan's tables, 0", drawn.own_tables[i] && other(Call::add, 0));
