@@ -1,6 +1,7 @@
 // How long Judge, Check, Add and Write take, on the same plans in one run: the library (where linked), the sweep, the library's own way and a writer
 // in plain C++, source document 001's RUL- algorithm for the verdict alone and with the two tables that a post would still need, and Boost's
-// Floyd-Warshall on plans without links. And reach words: the update after Add beside building them afresh.
+// Floyd-Warshall on plans without links. Sound, and what it adds to Judge where both are asked; Earliest. And reach words: the update after Add beside
+// building them afresh.
 // A repeat times every contestant once, one after the other, so that a slow moment falls on all; ratios are taken within a repeat.
 #include <time.h>
 
@@ -41,7 +42,7 @@ struct Prepared {
   mutable std::vector<std::uint64_t> words;  // updated where they stand, so that no copy is timed: after the first update they stay as they are
 };
 
-std::int32_t strict[most_cells], open_cells[most_cells];
+std::int32_t strict[most_cells], open_cells[most_cells], times[most_points];
 std::int64_t scratch[2 * most_cells];
 std::uint8_t buffer[24 + 12 * most_limits + 16 * most_links];
 std::uint64_t built[most_points];
@@ -49,7 +50,7 @@ volatile std::uint64_t seen;  // keeps the calls from being left out
 
 // ---- plans ----
 
-// The largest plan there is; only Write is timed on it, so nobody asks whether it is controllable.
+// The largest plan there is; only Write and Sound are timed on it, so nobody asks whether it is controllable.
 Plan draw_largest(Random &random) {
   Plan plan;
   plan.points = most_points;
@@ -64,9 +65,10 @@ Plan draw_largest(Random &random) {
   return plan;
 }
 
-// As much of a plan as Write is lent.
+// As much of a plan as Write and Sound are lent.
 Prepared prepare_lists(const Plan &plan) {
   Prepared prepared;
+  prepared.file = file_of(plan);
   prepared.lists = lists_of(plan);
   prepared.at = places_of(prepared.lists);
   return prepared;
@@ -74,7 +76,6 @@ Prepared prepare_lists(const Plan &plan) {
 
 Prepared prepare(Random &random, const Plan &plan) {
   Prepared prepared = prepare_lists(plan);
-  prepared.file = file_of(plan);
   prepared.cells = std::size_t(plan.points) * plan.points;
   sweep::judge(prepared.file.data(), prepared.file.size(), strict, most_cells, open_cells, most_cells);
   prepared.strict.assign(strict, strict + prepared.cells);
@@ -126,6 +127,26 @@ struct Contestant {
 template <class Judge>
 Contestant judging(const char *name, Judge judge) {
   return {name, [judge](const Prepared &p) { seen = judge(p.file.data(), p.file.size(), strict, p.cells, open_cells, p.cells); }};
+}
+
+template <class Sound>
+Contestant sounding(const char *name, Sound sound) {
+  return {name, [sound](const Prepared &p) { seen = sound(p.file.data(), p.file.size()); }};
+}
+
+template <class Sound, class Judge>
+Contestant sounding_and_judging(const char *name, Sound sound, Judge judge) {
+  return {name, [sound, judge](const Prepared &p) {
+            seen = sound(p.file.data(), p.file.size());
+            seen = judge(p.file.data(), p.file.size(), strict, p.cells, open_cells, p.cells);
+          }};
+}
+
+template <class Earliest>
+Contestant timing(const char *name, Earliest earliest) {
+  return {name, [earliest](const Prepared &p) {
+            seen = earliest(p.file.data(), p.file.size(), strict, p.cells, open_cells, p.cells, times, most_points);
+          }};
 }
 
 template <class Check>
@@ -246,15 +267,75 @@ void print(const Report &report) {
 // ---- stack ----
 
 // By the calls alone: a contestant has frames of its own.
-void print_stack(const char *name, decltype(&post_judge) judge, decltype(&post_check) check, decltype(&post_add) add, decltype(&post_write) write,
-                 const Prepared &p) {
+void print_stack(const char *name, decltype(&post_sound) sound, decltype(&post_judge) judge, decltype(&post_check) check, decltype(&post_add) add,
+                 decltype(&post_write) write, const Prepared &p) {
+  const std::size_t sounding = stack_of([&] { seen = sound(p.file.data(), p.file.size()); });
   const std::size_t judging = stack_of([&] { seen = judge(p.file.data(), p.file.size(), strict, p.cells, open_cells, p.cells); });  // Add's tables
-  std::printf("  %-10s Judge %zu, Check %zu, Add %zu, Write %zu\n", name, judging,
+  std::printf("  %-10s Sound %zu, Judge %zu, Check %zu, Add %zu, Write %zu\n", name, sounding, judging,
               stack_of([&] { seen = check(p.file.data(), p.file.size(), p.strict.data(), p.cells, p.open.data(), p.cells); }), stack_of([&] {
                 seen = add(p.file.data(), p.file.size(), p.added.from, p.added.to, std::int32_t(p.added.weight), strict, p.cells, open_cells, p.cells,
                            scratch, 2 * p.cells);
               }),
               stack_of([&] { seen = write_lists(write, p.lists, p.at, buffer, sizeof buffer); }));
+}
+
+void print_stacks(const Prepared &p) {
+  std::printf("\nBytes of stack a call touches, at n 64 and k 32\n\n");
+  print_stack("plain C++", sweep::sound, sweep::judge, sweep::check, sweep::add, sweep::write, p);
+#ifdef WITH_LIBRARY
+  print_stack("library", post_sound, post_judge, post_check, post_add, post_write, p);
+#endif
+}
+
+// ---- the pair, and Earliest ----
+
+// Twelve plans of n points and k links.
+std::vector<Prepared> prepare_row(std::uint64_t seed, std::uint32_t n, std::uint32_t k) {
+  Random random = row_of(seed, n, k);
+  std::vector<Prepared> plans;
+  for (int i = 0; i < 12; ++i) {
+    const Plan plan = draw(random, n, k);
+    plans.push_back(prepare(random, plan));
+  }
+  return plans;
+}
+
+std::vector<Prepared> prepare_largest(std::uint64_t seed) {
+  Random random(seed);
+  std::vector<Prepared> plans;
+  for (int i = 0; i < 12; ++i) plans.push_back(prepare_lists(draw_largest(random)));
+  return plans;
+}
+
+// Sound by itself, also on the largest files, and before Judge; and Earliest, where there are no links.
+void measure_pair(const Budget &budget, int repeats) {
+  std::vector<Contestant> sounds = {sounding("plain C++", sweep::sound)}, earliests = {timing("plain C++", sweep::earliest)}, pair;
+#ifdef WITH_LIBRARY
+  sounds.push_back(sounding("library", post_sound));
+  earliests.push_back(timing("library", post_earliest));
+  pair = {judging("Judge alone", post_judge), sounding_and_judging("Sound and then Judge", post_sound, post_judge)};
+  const char *const by = "The pair beside Judge alone, by the library";
+#else
+  pair = {judging("Judge alone", sweep::judge), sounding_and_judging("Sound and then Judge", sweep::sound, sweep::judge)};
+  const char *const by = "The pair beside Judge alone, in plain C++";
+#endif
+  const std::vector<std::string> columns = {"n", "m", "k"};
+  Report sound_report{"Sound", columns, "", {}}, pair_report{by, columns, "", {}}, earliest_report{"Earliest", columns, "", {}};
+  const auto row = [](std::uint32_t n, std::uint32_t m, std::uint32_t k) { return std::to_string(n) + " | " + std::to_string(m) + " | " + std::to_string(k); };
+  std::vector<Prepared> last;
+  for (std::uint32_t n : {8u, 16u, 32u, 64u})
+    for (std::uint32_t k : {0u, n / 4, n / 2}) {
+      const std::string plans_are = row(n, 3 * n, k);
+      last = prepare_row(budget.seed, n, k);
+      measure(sound_report, plans_are, sounds, last, repeats);
+      measure(pair_report, plans_are, pair, last, repeats);
+      if (k == 0) measure(earliest_report, plans_are, earliests, last, repeats);
+    }
+  measure(sound_report, row(most_points, most_limits, most_links), sounds, prepare_largest(budget.seed), repeats);
+  std::printf("\nThe pair and Earliest: 12 controllable plans a row, and for Sound 12 of the most limits and links; x: the ratio to the first column of times in\n"
+              "the same repeat.\n");
+  for (const Report *report : {&sound_report, &pair_report, &earliest_report}) print(*report);
+  print_stacks(last[0]);
 }
 
 // ---- reach words ----
@@ -310,12 +391,13 @@ void measure_words(const Budget &budget, int repeats) {
 }  // namespace
 
 int main(int words, char **word) {
-  const bool words_alone = words > 1 && std::string(word[1]) == "words";
-  Budget budget(words - words_alone, word + words_alone, 15);  // count: repeats
+  const std::string part = words > 1 ? word[1] : "";
+  const bool alone = part == "words" || part == "pair";
+  Budget budget(words - alone, word + alone, 15);  // count: repeats
   const int repeats = int(budget.count);
-  if (words_alone) {
+  if (alone) {
     std::printf("Microseconds of processor time a call, the median of %d repeats\n", repeats);
-    measure_words(budget, repeats);
+    (part == "words" ? measure_words : measure_pair)(budget, repeats);
     return 0;
   }
   std::vector<Contestant> judges = {judging("plain C++", sweep::judge)}, checks = {checking("plain C++", sweep::check)},
@@ -330,7 +412,6 @@ int main(int words, char **word) {
   judges.push_back({"RUL- verdict", [](const Prepared &p) { seen = rul::controllable(p.file.data(), p.file.size()); }});
   judges.push_back({"RUL- and two tables",
                     [](const Prepared &p) { seen = rul::controllable_with_tables(p.file.data(), p.file.size(), strict, open_cells); }});
-  std::vector<Prepared> largest;
   const std::vector<std::string> columns = {"n", "k", "sweeps", "rounds"};
   Report judge_report{"Judge", columns, "", {}}, check_report{"Check", columns, "", {}}, add_report{"Add", columns, "", {}},
       write_report{"Write", {"n", "m", "k"}, "", {}};
@@ -339,15 +420,12 @@ int main(int words, char **word) {
   };
   for (std::uint32_t n : {8u, 16u, 32u, 64u})
     for (std::uint32_t k : {0u, n / 4, n / 2}) {
-      Random random = row_of(budget.seed, n, k);
-      std::vector<Prepared> plans;
+      const std::vector<Prepared> plans = prepare_row(budget.seed, n, k);
       unsigned sweeps = 0, most_sweeps = 0, rounds = 0, most_rounds = 0;
-      for (int i = 0; i < 12; ++i) {
-        const Plan plan = draw(random, n, k);
-        plans.push_back(prepare(random, plan));
-        sweep::judge(plans.back().file.data(), plans.back().file.size(), strict, most_cells, open_cells, most_cells);
+      for (const Prepared &p : plans) {
+        sweep::judge(p.file.data(), p.file.size(), strict, most_cells, open_cells, most_cells);
         sweeps += sweep::sweeps_of_last(), most_sweeps = std::max(most_sweeps, sweep::sweeps_of_last());
-        sweep::judge_by_spreading(plans.back().file.data(), plans.back().file.size(), strict, most_cells, open_cells, most_cells);
+        sweep::judge_by_spreading(p.file.data(), p.file.size(), strict, most_cells, open_cells, most_cells);
         rounds += sweep::sweeps_of_last(), most_rounds = std::max(most_rounds, sweep::sweeps_of_last());
       }
       char plans_are[80];
@@ -358,20 +436,12 @@ int main(int words, char **word) {
       measure(check_report, plans_are, checks, plans, repeats);
       measure(add_report, plans_are, adds, plans, repeats);
       measure_write(n, 3 * n, k, plans);
-      largest = std::move(plans);
     }
-  Random random(budget.seed);
-  std::vector<Prepared> full;
-  for (int i = 0; i < 12; ++i) full.push_back(prepare_lists(draw_largest(random)));
-  measure_write(most_points, most_limits, most_links, full);
+  measure_write(most_points, most_limits, most_links, prepare_largest(budget.seed));
   std::printf("12 controllable plans of 3 n limits a row; Write's last row has 12 plans of the most limits and links.\n");
   std::printf("Microseconds of processor time a call, the median of %d repeats;\n", repeats);
   std::printf("x: the ratio to plain C++ in the same repeat, its median (least-most). Both tables take 8 n n bytes, Add's scratch 16 n n.\n");
   for (const Report *report : {&judge_report, &check_report, &add_report, &write_report}) print(*report);
+  measure_pair(budget, repeats);
   measure_words(budget, repeats);
-  std::printf("\nBytes of stack a call touches, at n 64 and k 32\n\n");
-  print_stack("plain C++", sweep::judge, sweep::check, sweep::add, sweep::write, largest[0]);
-#ifdef WITH_LIBRARY
-  print_stack("library", post_judge, post_check, post_add, post_write, largest[0]);
-#endif
 }

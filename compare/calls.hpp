@@ -7,6 +7,7 @@
 
 struct Calls {
   const char *name;
+  decltype(&post_sound) sound;
   decltype(&post_check) check;
   decltype(&post_judge) judge;
   decltype(&post_earliest) earliest;
@@ -20,11 +21,11 @@ struct Calls {
   decltype(&post_reach_add) reach_add;
 };
 
-inline const Calls reference_calls = {"reference",        reference::check, reference::judge, reference::earliest, reference::add,
-                                      reference::write,   reference::reasons, reference::rests, reference::reach,    reference::bounded,
-                                      reference::both,    reference::reach_add};
-inline const Calls linked_calls = {"linked",     post_check, post_judge, post_earliest, post_add,      post_write,
-                                   post_reasons, post_rests, post_reach, post_bounded,  post_both,     post_reach_add};
+inline const Calls reference_calls = {"reference",        reference::sound, reference::check,   reference::judge, reference::earliest,
+                                      reference::add,     reference::write, reference::reasons, reference::rests, reference::reach,
+                                      reference::bounded, reference::both,  reference::reach_add};
+inline const Calls linked_calls = {"linked",     post_sound, post_check, post_judge,   post_earliest, post_add,      post_write,
+                                   post_reasons, post_rests, post_reach, post_bounded, post_both,     post_reach_add};
 
 inline std::uint32_t code_of(std::uint64_t answer) { return std::uint32_t(answer); }
 inline std::uint32_t place_of(std::uint64_t answer) { return std::uint32_t(answer >> 32); }

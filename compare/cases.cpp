@@ -1,15 +1,16 @@
 // Document 01's plans a to l and the plan of document 02's item 2, typed in from the papers with the answers they give, run on the reference and then on the
 // linked calls. Beside them plans about links of fixed length, with tables worked out by hand, and one plan whose strict cells fall for ever; and files
-// with the fields at fault that document 02's item 5 blames, through every call. Also document 01's "Easy ways to be wrong" that name a case.
+// with the fields at fault that document 02's item 5 blames, through every call. Each plan goes through Sound and then Judge (item 7). Also document 01's "Easy ways to be wrong" that name a case.
 #include <algorithm>
 #include <cstdio>
 
 #include "calls.hpp"
 #include "lists.hpp"
+#include "pair.hpp"
 
 namespace {
 
-int wrong = 0, blamed_answers = 0;
+int wrong = 0, blamed_answers = 0, sound_answers = 0;
 
 void expect(bool good, const char *calls, const char *what) {
   if (good) return;
@@ -19,16 +20,12 @@ void expect(bool good, const char *calls, const char *what) {
 
 using Cells = std::vector<std::int32_t>;
 
-struct Judged {
-  std::uint64_t answer;
-  Cells strict, open;
-};
+Judged judge(const Calls &calls, const Plan &plan) { return judge_pair(calls, file_of(plan), plan.points); }
 
-Judged judge(const Calls &calls, const Plan &plan) {
-  const auto file = file_of(plan);
-  Judged judged{0, Cells(plan.points * plan.points, 7), Cells(plan.points * plan.points, 7)};
-  judged.answer = calls.judge(file.data(), file.size(), judged.strict.data(), judged.strict.size(), judged.open.data(), judged.open.size());
-  return judged;
+// Sound answers this of the plan's file, and Judge belongs to it.
+void sounds(const Calls &calls, const char *name, const Judged &judged, std::uint64_t answer) {
+  ++sound_answers;
+  expect(judged.sound == answer && judged.broken.empty(), calls.name, (std::string(name) + ", in Sound, which answers " + said(judged.sound) + ",").c_str());
 }
 
 // Write answers this; with 0 the buffer begins with the file of the plan, and else, as past the file, it stays.
@@ -45,14 +42,24 @@ void writes(const Calls &calls, const char *name, const Plan &plan, std::uint64_
 // Judge gives these tables and Check accepts them; the plan is one that is written.
 void gives(const Calls &calls, const char *name, const Plan &plan, const Cells &strict, const Cells &open) {
   const Judged judged = judge(calls, plan);
+  sounds(calls, name, judged, 0);
   expect(judged.answer == 0 && judged.strict == strict && judged.open == open, calls.name, name);
   const auto file = file_of(plan);
   expect(calls.check(file.data(), file.size(), strict.data(), strict.size(), open.data(), open.size()) == 0, calls.name, name);
   writes(calls, name, plan, 0);
 }
 
+// Judge takes the plan, whatever its tables.
+void takes(const Calls &calls, const char *name, const Plan &plan) {
+  const Judged judged = judge(calls, plan);
+  sounds(calls, name, judged, 0);
+  expect(judged.answer == 0, calls.name, name);
+}
+
+// With 11 the file is sound.
 void refuses(const Calls &calls, const char *name, const Plan &plan, std::uint32_t code, std::uint32_t place = 0) {
   const Judged judged = judge(calls, plan);
+  sounds(calls, name, judged, code == 11 ? 0 : code | std::uint64_t(place) << 32);
   expect(code_of(judged.answer) == code && place_of(judged.answer) == place, calls.name, name);
   const Cells left(plan.points * plan.points, code == 11 ? mark : 7);
   expect(judged.strict == left && judged.open == left, calls.name, name);
@@ -131,6 +138,7 @@ void blames(const Calls &calls, Bytes file, const Blamed &blamed, const Limit &a
   std::uint8_t buffer[1] = {};
   must("Add", calls.add(at, length, added.from, added.to, std::int32_t(added.weight), strict, 1, open, 1, scratch, 1));
   if (add_alone) return;
+  must("Sound", calls.sound(at, length));
   must("Judge", calls.judge(at, length, strict, 1, open, 1));
   must("Check", calls.check(at, length, strict, 1, open, 1));
   must("Earliest", calls.earliest(at, length, strict, 1, open, 1, times, 1));
@@ -221,15 +229,15 @@ void cases(const Calls &calls) {
   refuses(calls, "i", {3, {{1, 2, -1}, {2, 1, 3}}, {{0, 1, 2, 5}}}, 11);
   const std::vector<Link> two = {{0, 1, 1, 3}, {0, 2, 1, 2}};
   refuses(calls, "j", {3, {{1, 2, 0}}, two}, 11);
-  expect(judge(calls, {3, {{1, 2, 1}}, two}).answer == 0, calls.name, "j");
+  takes(calls, "j", {3, {{1, 2, 1}}, two});
   refuses(calls, "k", {2, {{1, 1, -1}}, {}}, 11);
-  expect(judge(calls, {2, {{1, 1, 0}}, {}}).answer == 0, calls.name, "k");
+  takes(calls, "k", {2, {{1, 1, 0}}, {}});
 
   refuses(calls, "l", {65, {}, {}}, 3);
   refuses(calls, "l", {2, {{0, 1, 1000001}}, {}}, 6, 32);
-  expect(judge(calls, {2, {{0, 1, 1000000}}, {}}).answer == 0, calls.name, "l");
+  takes(calls, "l", {2, {{0, 1, 1000000}}, {}});
   refuses(calls, "l", {2, {}, {{0, 1, 0, 5}}}, 7, 32);
-  expect(judge(calls, {2, {}, {{0, 1, 1, 1000000}}}).answer == 0, calls.name, "l");
+  takes(calls, "l", {2, {}, {{0, 1, 1, 1000000}}});
 
   fixed_lengths(calls);
   places(calls);
@@ -263,9 +271,9 @@ int main() {
   cases(reference_calls);
   ways_to_be_wrong();
   if (wrong > 0) return 1;  // nothing below means anything while the reference is wrong
-  blamed_answers = 0;
+  blamed_answers = sound_answers = 0;
   cases(linked_calls);
-  std::printf("cases a to l, document 02's item 2 and fixed lengths about it, %d answers with the field that item 5 blames: reference as the papers "
-              "have them, linked calls %s\n", blamed_answers, wrong ? "NOT as the papers have them" : "as the papers have them");
+  std::printf("cases a to l, document 02's item 2 and fixed lengths about it, %d of these plans through Sound first, %d answers with the field that item 5 "
+              "blames: reference as the papers have them, linked calls %s\n", sound_answers, blamed_answers, wrong ? "NOT as the papers have them" : "as the papers have them");
   return wrong > 0;
 }

@@ -1,4 +1,4 @@
-// Damaged files through every call: each header field, each length, each record's fields, several damages at once, random bytes; with rooms short,
+// Damaged files through every call, Judge behind Sound and Sound also by itself: each header field, each length, each record's fields, several damages at once, random bytes; with rooms short,
 // needed and long, and with Add's own limit in and out of range, so that the order of the codes is held too.
 #include <algorithm>
 
@@ -38,12 +38,19 @@ int main(int words, char **word) {
     Plan plan;
     File file = base_file(random, plan);
     for (std::uint32_t times = 1 + random.below(3); times > 0; --times) damage(random, file, plan.points);
-    const Call call = static_cast<Call>(random.below(4));
+    const Call call = static_cast<Call>(random.below(call_count));
     Case lent = lend(random, call, file, random.one_in(40) ? 64 : plan.points);
     lent.added = random_limit(random, plan);
     for (std::uint32_t times = random.one_in(4) ? 1 + random.below(3) : 0; times > 0; --times) damage_added(random, lent.added, plan.points);
-    const std::uint64_t answer = hold(lent, budget);
-    tally.count(call, answer);
+    std::uint64_t answer;
+    if (call == Call::judge) {
+      const TwoAnswers answers = hold_pair(lent, budget);
+      tally.count(answers);
+      answer = answers.judged;
+    } else {
+      answer = hold(lent, budget);
+      tally.count(call, answer);
+    }
     fields.count(answer, field_at(file, 8));
     const std::uint32_t code = code_of(answer);
     refused += code >= 1 && code <= 8;
@@ -51,5 +58,6 @@ int main(int words, char **word) {
   std::printf("damaged: %llu files, %llu of them refused as files, %.1f s, no difference\n", static_cast<unsigned long long>(budget.done),
               static_cast<unsigned long long>(refused), budget.spent());
   tally.print();
-  return !fields.all_came("damaged files", true);
+  const bool fields_came = fields.all_came("damaged files", true);
+  return !(tally.calls[std::size_t(Call::sound)].all_came("damaged files, Sound", 8) && fields_came);
 }

@@ -26,6 +26,7 @@ Plan draw(Random &random, std::uint32_t n, std::uint32_t k) {
       plan.limits.push_back({from, to, hidden[to] - hidden[from] + random.from_to(slack / 4, slack)});
     }
     const auto file = file_of(plan);
+    if (sweep::sound(file.data(), file.size()) != 0) continue;
     if (sweep::judge(file.data(), file.size(), strict.data(), strict.size(), open.data(), open.size()) == 0) return plan;
   }
 }

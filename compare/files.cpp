@@ -10,9 +10,11 @@
 
 namespace {
 
+// The file is asked after first, then the plan.
 std::string expected(const std::vector<std::uint8_t> &file) {
   std::vector<std::int32_t> strict(64 * 64), open(strict);
-  const std::uint64_t answer = reference::judge(file.data(), file.size(), strict.data(), strict.size(), open.data(), open.size());
+  std::uint64_t answer = reference::sound(file.data(), file.size());
+  if (answer == 0) answer = reference::judge(file.data(), file.size(), strict.data(), strict.size(), open.data(), open.size());
   if (answer == 0) return "controllable\n";
   return "refused " + std::to_string(std::uint32_t(answer)) + " " + std::to_string(answer >> 32) + "\n";
 }

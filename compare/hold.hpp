@@ -4,20 +4,23 @@
 #include <array>
 #include <string>
 
-#include "calls.hpp"
+#include "pair.hpp"
 #include "random.hpp"
 
-enum class Call { judge, check, add, earliest };
+enum class Call { sound, judge, check, add, earliest };
+constexpr std::size_t call_count = 5;
+const char *name_of(Call call);
 
 // One call and all that it is lent. A vector's length is the room lent. `past` is how many sentinels lie between the end of each room and memory
-// that cannot be touched: 0 catches reads past the end, more than 0 shows what was written there.
+// that cannot be touched: 0 catches reads past the end, more than 0 shows what was written there. Behind the file there are `behind` more: a file that is
+// to grow or shrink where it lies begins at the same byte then.
 struct Case {
   Call call = Call::judge;
   std::vector<std::uint8_t> file;
   Limit added = {0, 0, 0};
   std::vector<std::int32_t> strict, open, times;
   std::vector<std::int64_t> scratch;
-  std::size_t past = 0;
+  std::size_t past = 0, behind = 0;
 };
 
 // What a run of both came to: the answers, the rooms afterwards, and a sentence on how they differ, or nothing.
@@ -32,6 +35,18 @@ Outcome run_both(const Case &lent);
 // Runs the case and insists that there is no difference. The rooms of `lent` then hold what the call left. Returns the answer.
 std::uint64_t hold(Case &lent, const Budget &budget);
 
+// Sound and then Judge on the file of a case of Judge's, each held, and Judge whatever Sound answered; then the two answers must belong together.
+struct TwoAnswers {
+  std::uint64_t sound, judged;
+};
+TwoAnswers hold_pair(Case &lent, const Budget &budget);
+
+// How the answers of the pair do not belong together, or nothing: `lent` is what Judge was lent, `left` what it left.
+std::string pair_broken(const TwoAnswers &answers, const Case &lent, const Case &left);
+
+// A file in document 01's notation, or field by field where it is refused.
+std::string in_words(const std::vector<std::uint8_t> &file);
+
 // A room as needed, one short, one long or longer, mostly as needed.
 std::size_t room_about(Random &random, std::size_t needed);
 
@@ -44,6 +59,8 @@ struct Codes {
   void count(std::uint64_t answer) { ++times[code_of(answer) < 13 ? code_of(answer) : 13]; }
   static void print_head();
   void print(const char *call) const;
+  // A sentence for each of the codes from 0 to `last` that never came up. True if all did.
+  bool all_came(const char *answers, std::uint32_t last) const;
 };
 
 // How often each field was at fault, told from an answer's place and the number of limits (document 02, item 5): of a limit of the file's, of Add's own limit,
@@ -56,7 +73,8 @@ struct Fields {
 };
 
 struct Tally {
-  std::array<Codes, 4> calls;
+  std::array<Codes, call_count> calls;
   void count(Call call, std::uint64_t answer) { calls[std::size_t(call)].count(answer); }
+  void count(const TwoAnswers &answers) { count(Call::sound, answers.sound), count(Call::judge, answers.judged); }
   void print() const;
 };

@@ -14,7 +14,7 @@ extern "C" [[gnu::noinline]] void next() { asm volatile(""); }
 namespace {
 
 std::uint8_t file[24 + 12 * most_limits + 16 * most_links + 1];
-std::int32_t strict[most_points * most_points], open_cells[most_points * most_points];
+std::int32_t strict[most_points * most_points], open_cells[most_points * most_points], times[most_points];
 
 // At every position of the file, at some past its end and at the last positions there are, the signed read gives the field's number; 0 past the end.
 bool reads_right(std::size_t size) {
@@ -41,8 +41,12 @@ int main() {
   next();
   const std::uint64_t checked = post_check(file, size, strict, most_points * most_points, open_cells, most_points * most_points);
   next();
+  const std::uint64_t earliest = post_earliest(file, size, strict, most_points * most_points, open_cells, most_points * most_points, times, most_points);
+  next();
+  const bool with_links = field_at({file, file + size}, 12) > 0;
   const bool right = whole == std::int32_t(field_at({file, file + size}, 32)) && cut == std::int32_t(field_at({file, file + size}, size - 2)) &&
-                     no_room == POST_SHORT_ROOM && judged == POST_DONE && checked == POST_DONE && reads_right(size);
+                     no_room == POST_SHORT_ROOM && judged == POST_DONE && checked == POST_DONE &&
+                     earliest == (with_links ? POST_HAS_LINKS : POST_DONE) && reads_right(size);
   std::puts(right ? "right" : "wrong");
   return right ? 0 : 1;
 }

@@ -49,7 +49,7 @@ Plan plan_with(Random random, std::uint32_t n, std::uint32_t k, Wide slack) {
 
 bool is_refused(const Plan &plan) {
   const auto file = file_of(plan);
-  return sweep::judge(file.data(), file.size(), strict, most_cells, open_cells, most_cells) == 11;
+  return sweep::sound(file.data(), file.size()) == 0 && sweep::judge(file.data(), file.size(), strict, most_cells, open_cells, most_cells) == 11;
 }
 
 // The most slack with which this drawing is refused, or -1 where it never is.
@@ -83,12 +83,13 @@ double time_of(const std::function<void()> &call) {  // the best of five
 
 struct Way {
   const char *name;
+  decltype(&post_sound) sound;
   decltype(&post_judge) judge;
   decltype(&post_reasons) reasons;
 };
-const Way ways[] = {{"plain C++", sweep::judge, sweep::reasons},
+const Way ways[] = {{"plain C++", sweep::sound, sweep::judge, sweep::reasons},
 #ifdef WITH_LIBRARY
-                    {"library", post_judge, post_reasons},
+                    {"library", post_sound, post_judge, post_reasons},
 #endif
 };
 constexpr std::size_t way_count = sizeof ways / sizeof ways[0];
@@ -109,8 +110,10 @@ struct Row {
         answer = ways[way].reasons(file.data(), file.size(), kinds.data(), count, froms.data(), count, tos.data(), count, weights.data(), count,
                                    firsts.data(), count, seconds.data(), count, work, 4 * most_cells);
       }));
-      if (answer != (std::uint64_t(count) << 32 | 11)) {
-        std::printf("DIFFERENCE in Reasons, %s: not the reference's number of lines\n  plan: %s\n", ways[way].name, notation(plan).c_str());
+      const bool sound = ways[way].sound(file.data(), file.size()) == 0;  // the afternoon; how long it takes is for the benchmark
+      if (!sound || answer != (std::uint64_t(count) << 32 | 11)) {
+        std::printf("DIFFERENCE in %s, %s\n  plan: %s\n", sound ? "Reasons: not the reference's number of lines" : "Sound: a plan is refused", ways[way].name,
+                    notation(plan).c_str());
         std::exit(1);
       }
     }

@@ -63,10 +63,13 @@ compile() {
   for pid in "${running[@]}"; do wait "$pid" || fail "something did not compile"; done
 }
 
-# compile_example NAME: an object of examples/NAME.c, as C and strictly so, for people's programs may be C.
-compile_example() {
-  "${compiler%g++}gcc" -I"$root/include" -std=c99 -pedantic -Wall -Wextra -Werror "${OPTIMIZE:--O2}" -c -o "$out/$flavour/$1.o" "$root/examples/$1.c" ||
-    fail "examples/$1.c did not compile"
+# build_example NAME [SOURCE]: the program example_NAME of examples/NAME.c, or of another source, and the calls. As C and strictly so, for people's programs
+# may be C.
+build_example() {
+  local source=${2:-$root/examples/$1.c}
+  "${compiler%g++}gcc" -I"$root/include" -std=c99 -pedantic -Wall -Wextra -Werror "${OPTIMIZE:--O2}" -c -o "$out/$flavour/example_$1.o" "$source" ||
+    fail "${source#"$root"/} did not compile"
+  link "example_$1" "example_$1" calls
 }
 
 # link PROGRAM SOURCE...: the program from objects, with the calls of the flavour where `calls` is named.

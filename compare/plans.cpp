@@ -1,4 +1,4 @@
-// Random sound plans of all shapes through every call: Judge, Earliest, Check on the tables that Judge left, Add of a random limit to them.
+// Random sound plans of all shapes through every call: Sound and Judge, Earliest, Check on the tables that Judge left, Add of a random limit to them.
 #include <algorithm>
 
 #include "fixed.hpp"
@@ -31,15 +31,14 @@ int main(int words, char **word) {
     fixed += some_link_fixed(plan);
 
     Case lent = lend(random, Call::judge, file, n);
-    std::uint64_t answer = hold(lent, budget);
-    tally.count(Call::judge, answer);
+    tally.count(hold_pair(lent, budget));
     if (k == 0 || random.one_in(8)) {
       lent = lend(random, Call::earliest, file, n);
       tally.count(Call::earliest, hold(lent, budget));
     }
 
     lent = lend(random, Call::judge, file, n, true);
-    answer = hold(lent, budget);
+    const std::uint64_t answer = hold_pair(lent, budget).judged;
     ++by_links[code_of(answer) == 0 ? 0 : 1][k == 0 ? 0 : k == 1 ? 1 : k < 5 ? 2 : 3];
     if (answer == 0 && all_links_fixed(plan)) must_be_one_table(plan, lent, budget), ++one_table;
     const auto with_tables = [&](Call call) {  // tables as Judge left them; rooms may be short or long

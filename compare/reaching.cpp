@@ -2,10 +2,10 @@
 // cells and bits at all ends, points and numbers of points at and beyond theirs, every slice too short, exact and longer. Then random calls on tables and
 // words that hold anything. Then additions: words built after Judge and brought up to date after each Add that was taken are those built afresh.
 #include <algorithm>
-#include <map>
 
 #include "ground.hpp"
 #include "hold.hpp"
+#include "kinds.hpp"
 #include "shapes.hpp"
 #include "shrink.hpp"
 
@@ -410,9 +410,10 @@ struct Typed {
   void after(const Plan &plan, const Words &judged, const Limit &added, const Words &then) {
     const auto file = file_of(plan);
     const std::size_t cells = std::size_t(plan.points) * plan.points;
-    Cells strict(cells), open(cells);
+    auto [sound, answer, strict, open, broken] = judge_pair(linked_calls, file, plan.points);
     std::vector<std::int64_t> scratch(2 * cells);
-    if (post_judge(file.data(), file.size(), strict.data(), cells, open.data(), cells) != 0) wrong("Judge refuses", plan);
+    if (sound != 0) wrong("Sound refuses", plan);
+    if (answer != 0) wrong("Judge refuses", plan);
     builds(plan.points, strict, judged);
     if (post_add(file.data(), file.size(), added.from, added.to, std::int32_t(added.weight), strict.data(), cells, open.data(), cells, scratch.data(), 2 * cells) != 0)
       wrong("Add refuses", plan);
@@ -494,23 +495,6 @@ struct Typed {
 };
 
 // ---- random calls ----
-
-// How often each kind of case came up. What was asked after is in the list, though it never came.
-struct Kinds {
-  std::map<std::string, std::uint64_t> times;
-  void count(const char *kind, bool came) { times[kind] += came; }
-
-  // Prints them, and a sentence for each that never came up. True if all came up.
-  bool all_came(const char *of) const {
-    std::string line, never;
-    for (const auto &[kind, came] : times) {
-      line += (line.empty() ? "" : "; ") + kind + " " + std::to_string(came);
-      if (came == 0) never += "reaching: " + std::string(of) + ": " + kind + " never came up\n";
-    }
-    std::printf("  %s: %s\n%s", of, line.c_str(), never.c_str());
-    return never.empty();
-  }
-};
 
 std::uint32_t draw_n(Random &random) {
   switch (random.below(12)) {
@@ -661,16 +645,8 @@ struct Story {
   std::vector<Limit> order;
 };
 
-struct Tables {
-  std::uint64_t answer;
-  Cells strict, open;
-};
-
-Tables begin(const Story &story) {
-  const auto file = file_of(story.plan);
-  const std::size_t cells = std::size_t(story.plan.points) * story.plan.points;
-  Tables tables{0, Cells(cells), Cells(cells)};
-  tables.answer = linked_calls.judge(file.data(), file.size(), tables.strict.data(), cells, tables.open.data(), cells);
+Judged begin(const Story &story) {
+  Judged tables = judge_pair(linked_calls, file_of(story.plan), story.plan.points);
   Wide largest = 1;
   for (const Cells *table : {&tables.strict, &tables.open})
     for (std::int32_t cell : *table)
@@ -689,7 +665,7 @@ std::vector<std::uint8_t> file_of(const Story &story) {
   return file_of(plan);
 }
 
-std::uint64_t add(const std::vector<std::uint8_t> &file, const Limit &limit, Tables &tables) {
+std::uint64_t add(const std::vector<std::uint8_t> &file, const Limit &limit, Judged &tables) {
   std::vector<std::int64_t> scratch(2 * tables.strict.size());
   return linked_calls.add(file.data(), file.size(), limit.from, limit.to, std::int32_t(limit.weight), tables.strict.data(), tables.strict.size(),
                           tables.open.data(), tables.open.size(), scratch.data(), scratch.size());
@@ -740,11 +716,11 @@ std::size_t changes(const Words &before, const Words &after) {
 // Two limits from the same tables, in either order: where all are taken, the words end the same.
 void either_order(Kept &kept, const Story &story, const Limit &one, const Limit &other, Kinds &kinds) {
   const auto file = file_of(story);
-  const Tables first = begin(story);
+  const Judged first = begin(story);
   Words ends[2];
   std::size_t changed = 0;
   for (std::size_t turn : {0, 1}) {
-    Tables tables = first;
+    Judged tables = first;
     Words words = kept.built(first.strict);
     for (const Limit &limit : {turn == 0 ? one : other, turn == 0 ? other : one}) {
       if (add(file, limit, tables) != 0) return;
@@ -763,7 +739,8 @@ void either_order(Kept &kept, const Story &story, const Limit &one, const Limit 
 // What is wrong with the words of this story, or nothing.
 std::string trouble(const Story &story, Kinds &kinds) {
   Kept kept{story.plan.points, ""};
-  Tables tables = begin(story);
+  Judged tables = begin(story);
+  if (!tables.broken.empty() || tables.sound != 0) kept.see("of the plan Sound says " + said(tables.sound) + ", Judge " + said(tables.answer));
   Words words = kept.built(tables.strict);
   if (tables.answer != 0) {
     if (std::any_of(words.begin(), words.end(), [](std::uint64_t word) { return word != 0; })) kept.see("the plan is refused, and a word is not 0");
@@ -881,13 +858,13 @@ int main(int words, char **word) {
   }
   bool all_came = true;
   for (std::size_t question = 0; question < question_count; ++question) {
-    all_came &= kinds[question].all_came(question_names[question]);
+    all_came &= kinds[question].all_came("reaching", question_names[question]);
     for (std::uint32_t code : {0, 3, 9}) {
       if (codes[question].times[code] > 0) continue;
       std::printf("reaching: %s: code %u never came up\n", question_names[question], code);
       all_came = false;
     }
   }
-  all_came &= story_kinds.all_came("additions");
+  all_came &= story_kinds.all_came("reaching", "additions");
   return !all_came;
 }

@@ -1,5 +1,5 @@
 // Document 01, section by section: plan file, edges and rules, two tables, numbers returned. From document 02: item 2 in a link's range, item 5 in
-// the places, and item 1 at the end. Written to be read beside them, not to be quick: rounds over every rule in the paper's words until nothing moves.
+// the places, item 7 among the numbers returned, and item 1 at the end. Written to be read beside them, not to be quick: rounds over every rule in the paper's words until nothing moves.
 #include "reference.hpp"
 
 #include <algorithm>
@@ -233,6 +233,12 @@ static std::uint64_t answer(std::uint32_t code, std::uint32_t place = 0) { retur
 
 static void write_table(const std::vector<Wide> &table, std::int32_t *cells) {
   for (std::size_t i = 0; i < table.size(); ++i) cells[i] = table[i] == none ? mark : std::int32_t(table[i]);
+}
+
+// Document 02, item 7: "one call says whether the file is sound (codes 1 to 8)"
+std::uint64_t sound(const std::uint8_t *file, std::size_t file_len) {
+  const Reading reading = read(file, file_len);
+  return answer(reading.code, reading.place);
 }
 
 std::uint64_t check(const std::uint8_t *file, std::size_t file_len, const std::int32_t *strict, std::size_t strict_len,

@@ -40,6 +40,7 @@ Reading read(const std::uint8_t *file, std::size_t length, const Limit *added = 
 bool closed(const Plan &plan, const std::int32_t *strict, const std::int32_t *open);
 
 // The calls, with the parameters and the answers of post.h.
+decltype(post_sound) sound;
 decltype(post_check) check;
 decltype(post_judge) judge;
 decltype(post_earliest) earliest;

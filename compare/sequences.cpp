@@ -7,23 +7,12 @@
 
 namespace {
 
-using Cells = std::vector<std::int32_t>;
+// Every file here is a sound one, whether its plan is controllable or not.
+Judged judge(const Calls &calls, const Plan &plan) { return judge_pair(calls, file_of(plan), plan.points); }
 
-struct Tables {
-  std::uint64_t answer;
-  Cells strict, open;
-  bool operator==(const Tables &other) const { return answer == other.answer && strict == other.strict && open == other.open; }
-};
+bool same_tables(const Judged &one, const Judged &other) { return one.answer == other.answer && one.strict == other.strict && one.open == other.open; }
 
-Tables judge(const Calls &calls, const Plan &plan) {
-  const auto file = file_of(plan);
-  const std::size_t cells = std::size_t(plan.points) * plan.points;
-  Tables tables{0, Cells(cells), Cells(cells)};
-  tables.answer = calls.judge(file.data(), file.size(), tables.strict.data(), cells, tables.open.data(), cells);
-  return tables;
-}
-
-std::uint64_t add(const Calls &calls, const std::vector<std::uint8_t> &file, const Limit &limit, Tables &tables) {
+std::uint64_t add(const Calls &calls, const std::vector<std::uint8_t> &file, const Limit &limit, Judged &tables) {
   std::vector<std::int64_t> scratch(2 * tables.strict.size());
   return calls.add(file.data(), file.size(), limit.from, limit.to, std::int32_t(limit.weight), tables.strict.data(), tables.strict.size(),
                    tables.open.data(), tables.open.size(), scratch.data(), scratch.size());
@@ -36,15 +25,16 @@ Plan with(Plan plan, const std::vector<Limit> &more) {
 
 // What is wrong with the additions in this order, or nothing.
 std::string trouble(const Calls &calls, const Plan &plan, const std::vector<Limit> &order) {
-  Tables tables = judge(calls, plan);
+  Judged tables = judge(calls, plan);
+  if (!tables.broken.empty() || tables.sound != 0) return "of the plan Sound says " + said(tables.sound) + ", Judge " + said(tables.answer);
   if (tables.answer != 0) return "";
   const auto file = file_of(plan);
   std::vector<Limit> taken;
   for (const Limit &limit : order) {
-    const Tables before = tables;
+    const Judged before = tables;
     const std::uint64_t answer = add(calls, file, limit, tables);
     if (answer == 11) {
-      if (!(tables == before)) return "a refused addition, " + notation(limit) + ", changed the tables";
+      if (!same_tables(tables, before)) return "a refused addition, " + notation(limit) + ", changed the tables";
       if (judge(calls, with(with(plan, taken), {limit})).answer != 11) return "the addition of " + notation(limit) + " is refused, the file with it is not";
     } else if (answer == 0) {
       taken.push_back(limit);
@@ -52,13 +42,13 @@ std::string trouble(const Calls &calls, const Plan &plan, const std::vector<Limi
       return "the addition of " + notation(limit) + " answers " + std::to_string(code_of(answer));
     }
   }
-  if (!(judge(calls, with(plan, taken)) == tables)) return "the tables are not those of the file with the limits that were taken";
+  if (!same_tables(judge(calls, with(plan, taken)), tables)) return "the tables are not those of the file with the limits that were taken";
   if ((judge(calls, with(plan, order)).answer == 0) != (taken.size() == order.size())) return "all were taken and the file with all is refused, or the other way round";
-  Tables again = judge(calls, plan);
+  Judged again = judge(calls, plan);
   for (std::size_t i = taken.size(); i > 0; --i)
     for (int repeat = 0; repeat < 2; ++repeat)
       if (add(calls, file, taken[i - 1], again) != 0) return "in the other order " + notation(taken[i - 1]) + " is refused";
-  if (!(again == tables)) return "the other order, with repeats, ends in other tables";
+  if (!same_tables(again, tables)) return "the other order, with repeats, ends in other tables";
   return "";
 }
 
@@ -93,7 +83,8 @@ int main(int words, char **word) {
   while (budget.more()) {
     Random random = budget.round();
     const Plan plan = random_plan(random, random.one_in(40) ? most_points : 10, most_limits - 40);
-    if (judge(linked_calls, plan).answer != 0) continue;
+    const Judged judged = judge(linked_calls, plan);
+    if (judged.answer == 11 && judged.sound == 0) continue;
     std::vector<Limit> some, order;
     for (std::uint32_t i = 1 + random.below(6); i > 0; --i) some.push_back(random_limit(random, plan));
     for (std::uint32_t i = 1 + random.below(2 * std::uint32_t(some.size())); i > 0; --i) order.push_back(random.any_of(some));
@@ -102,7 +93,7 @@ int main(int words, char **word) {
 
     // The same steps held against the reference.
     Case lent = lend(random, Call::judge, file_of(plan), plan.points, true);
-    hold(lent, budget);
+    tally.count(hold_pair(lent, budget));
     bool all = true;
     for (const Limit &limit : order) {
       Case next = lend(random, Call::add, lent.file, plan.points, true);

@@ -2,6 +2,8 @@
 #include "post.h"
 #include "sweep.hpp"
 
+uint64_t post_sound(const uint8_t *file, size_t file_len) { return sweep::sound(file, file_len); }
+
 uint64_t post_check(const uint8_t *file, size_t file_len, const int32_t *strict, size_t strict_len, const int32_t *open, size_t open_len) {
   return sweep::check(file, file_len, strict, strict_len, open, open_len);
 }

@@ -8,6 +8,7 @@
 
 namespace sweep {
 
+decltype(post_sound) sound;
 decltype(post_check) check;
 decltype(post_judge) judge;
 decltype(post_earliest) earliest;
@@ -19,9 +20,6 @@ decltype(post_reach) reach;  // these four in bits.cpp
 decltype(post_bounded) bounded;
 decltype(post_both) both;
 decltype(post_reach_add) reach_add;
-
-// Codes 1 to 8 of a file, with 6, 7 and 8 the offset of the field at fault as place; else 0.
-std::uint64_t sound(const std::uint8_t *file, std::size_t file_len);
 
 // Judge in the library's way: one pass of joins, then one edge after the other spread through both tables (sweep.cpp, SpreadTables).
 decltype(post_judge) judge_by_spreading;

@@ -24,6 +24,10 @@ struct Judged {
 Judged judge(const Way &way, const Plan &plan) {
   static std::int32_t strict[64 * 64], open[64 * 64];
   const auto file = file_of(plan);
+  if (sweep::sound(file.data(), file.size()) != 0) {  // a climb would take it for a plan of no sweeps
+    std::printf("sweeps: a plan was drawn whose file is not sound\n  plan: %s\n", notation(plan).c_str());
+    std::exit(1);
+  }
   const std::uint64_t answer = way.judge(file.data(), file.size(), strict, 64 * 64, open, 64 * 64);
   return {sweep::sweeps_of_last(), answer == 0};
 }

@@ -26,6 +26,7 @@ bool same(const std::vector<Wide> &table, const std::vector<std::int32_t> &cells
 bool spreads(const Plan &plan, const reference::Settled &settled) {
   const auto file = file_of(plan);
   std::vector<std::int32_t> strict(plan.points * plan.points), open(strict);
+  if (sweep::sound(file.data(), file.size()) != 0) return false;
   const auto answer = sweep::judge_by_spreading(file.data(), file.size(), strict.data(), strict.size(), open.data(), open.size());
   return settled.controllable ? answer == 0 && same(settled.strict, strict) && same(settled.open, open) : answer == 11;
 }

@@ -416,13 +416,13 @@ void damage(Random &random, Lists &lists) {
   }
 }
 
-// "Reading what was written gives the same plan": by the reference, and Judge of both reads the written bytes. Returns Judge's answer.
+// "Reading what was written gives the same plan": by the reference, and Sound and Judge of both read the written bytes. Returns Judge's answer.
 std::uint64_t read_back(Random &random, const Writing &written, const Budget &budget) {
   const Bytes file(written.buffer.begin(), written.buffer.begin() + std::ptrdiff_t(written.lists.file_size()));
   const reference::Reading reading = reference::read(file.data(), file.size());
   if (reading.code != 0 || !(lists_of(reading.plan) == written.lists)) report("what was written reads back as another plan", written, budget);
   Case judged = lend(random, Call::judge, file, written.lists.points, true);
-  return hold(judged, budget);
+  return hold_pair(judged, budget).judged;
 }
 
 }  // namespace

@@ -56,6 +56,7 @@ int main(int given, char **word) {
     size_t size = fread(file, 1, sizeof file, stdin);
     if (ferror(stdin)) stop("the plan file could not be read");
 
+    done(post_sound(file, size), "the plan is refused");
     done(post_judge(file, size, strict, LENGTH(strict), open_, LENGTH(open_)), "the plan is refused");
     uint32_t n = file[4]; /* the number of points: of an accepted file it is 1 to 64, so this byte has all of it */
     done(post_reach(n, strict, LENGTH(strict), words, LENGTH(words)), "no words were built");
