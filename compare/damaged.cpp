@@ -1,5 +1,5 @@
-// Damaged files through every call, Judge behind Sound and Sound also by itself: each header field, each length, each record's fields, several damages at once, random bytes; with rooms short,
-// needed and long, and with Add's own limit in and out of range, so that the order of the codes is held too.
+// Damaged files through every call, Judge behind Sound and Sound also by itself: each header field, each length, each record's fields, several damages at
+// once, random bytes; with rooms short, needed and long, and with Add's own limit in and out of range, so that the order of the codes is held too.
 #include <algorithm>
 
 #include "hold.hpp"

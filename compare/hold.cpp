@@ -40,8 +40,8 @@ void print_side(const char *name, const Case &left, std::uint64_t answer, std::s
   std::printf("  plan: %s\n", in_words(lent.file).c_str());
   if (lent.call == Call::add) std::printf("  added: %s\n", notation(lent.added).c_str());
   const std::size_t points = std::clamp<std::size_t>(field_at(lent.file, 4), 1, most_points);
-  if (lent.call != Call::sound) std::printf("  rooms: strict %zu, open %zu, times %zu, scratch %zu\n", lent.strict.size(), lent.open.size(), lent.times.size(),
-              lent.scratch.size());
+  if (lent.call != Call::sound)
+    std::printf("  rooms: strict %zu, open %zu, times %zu, scratch %zu\n", lent.strict.size(), lent.open.size(), lent.times.size(), lent.scratch.size());
   if (lent.call == Call::check || lent.call == Call::add)
     std::printf("  lent: strict %s, open %s\n", notation(lent.strict, points).c_str(), notation(lent.open, points).c_str());
   print_side("the reference", outcome.expected, outcome.wanted, points);

@@ -1,7 +1,7 @@
 // The file changes between the two calls, as document 02's item 7 fears: "since flash can change". A plan is stored and Sound says 0. Then its bytes change
 // where they lie, and Judge must answer what the reference says of them as they are now, with every cell as the reference leaves it; Sound is asked again
-// behind it, and one of the other calls behind or before it. A story has one such night or several, all in the same memory: what the calls answered before must not matter.
-// First nights whose answers stand here, then random ones.
+// behind it, and one of the other calls behind or before it. A story has one such night or several, all in the same memory: what the calls answered
+// before must not matter. First nights whose answers stand here, then random ones.
 #include <algorithm>
 #include <array>
 
