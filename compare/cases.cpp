@@ -1,6 +1,7 @@
 // Document 01's plans a to l and the plan of document 02's item 2, typed in from the papers with the answers they give, run on the reference and then on the
 // linked calls. Beside them plans about links of fixed length, with tables worked out by hand, and one plan whose strict cells fall for ever; and files
-// with the fields at fault that document 02's item 5 blames, through every call. Each plan goes through Sound and then Judge (item 7). Also document 01's "Easy ways to be wrong" that name a case.
+// with the fields at fault that document 02's item 5 blames, through every call. Each plan goes through Sound and then Judge (item 7). Also document 01's
+// "Easy ways to be wrong" that name a case.
 #include <algorithm>
 #include <cstdio>
 

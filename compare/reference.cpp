@@ -1,5 +1,6 @@
 // Document 01, section by section: plan file, edges and rules, two tables, numbers returned. From document 02: item 2 in a link's range, item 5 in
-// the places, item 7 among the numbers returned, and item 1 at the end. Written to be read beside them, not to be quick: rounds over every rule in the paper's words until nothing moves.
+// the places, item 7 among the numbers returned, and item 1 at the end. Written to be read beside them, not to be quick: rounds over every rule in the
+// paper's words until nothing moves.
 #include "reference.hpp"
 
 #include <algorithm>

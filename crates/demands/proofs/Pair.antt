@@ -9,7 +9,7 @@ use Rattle.rules.specs.declared.Answer.the-variants.{Done}
 use Rattle.rules.specs.Plan.{version1}
 use Rattle.rules.specs.Calls.{Judged}
 use Rattle.plan.specs.Layout.{planOf}
-use Rattle.plan.specs.File.{PlanFile, fileAnswer}
+use Rattle.plan.specs.File.{PlanFile}
 use Rattle.plan.proofs.SoundFile.{sound-exactly}
 use Rattle.demands.specs.Programs.{ourSound, ourJudge}
 use Rattle.demands.specs.Pair as pair

@@ -1,5 +1,4 @@
 // Judge: two tables filled from a plan file, or the plan refused as uncontrollable.
-ghost use mathlib.Core.Path.{_≡_};
 ghost use Prim.Native.Nat.{_*_, _≤_};
 ghost use lib.ListN.{length};
 ghost use Rattle.rules.specs.Plan.{version1};

@@ -1,5 +1,4 @@
 // Earliest: the earliest timetable of a plan without links.
-ghost use mathlib.Core.Path.{_≡_};
 ghost use Prim.Native.Nat.{_*_, _≤_};
 ghost use lib.ListN.{length};
 ghost use Rattle.rules.specs.Plan.{version1};
