@@ -90,7 +90,7 @@ fn front(file: &[u8]) -> Answer
     limits(file, h.points, h.limits)
 }
 
-// Whether any bytes are a plan file: codes 1 to 8, in the paper's order.
+// Sound: whether any bytes are a plan file, codes 1 to 8 in the paper's order. `post` hands it on as a call of the library.
 pub fn sound(file: &[u8]) -> Answer
     ensures { λ r. ⌜ r ≡ fileAnswer (now (file .entry)) ⌝ }
 {
