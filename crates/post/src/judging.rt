@@ -18,9 +18,9 @@ use tables::settle;
 pub fn lent(file: &[u8], strict: usize, open: usize) -> Answer
     ensures { λ r. ⌜ Lent (now (file .entry)) strict «open» r ⌝ }
 {
-    let a = sound(file);
-    if !accepted(a) {
-        return a;
+    let own = sound(file);
+    if !accepted(own) {
+        return own;
     }
     let h = head(file);
     let n = h.points as usize;

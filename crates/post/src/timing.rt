@@ -18,9 +18,9 @@ fn timed(file: &[u8], n: usize, strict: &mut [i32], open: &mut [i32], times: &mu
     requires { ⌜ Ready (now file) n (headOf (now file) .limits) 0 × (n * n ≤ length (now strict)) × (n * n ≤ length (now «open»)) × (n ≤ length (now times)) ⌝ }
     ensures { λ r. ⌜ Timed version1 (fileAnswer (now (file .entry))) (planOf (now (file .entry))) (now (strict .entry)) (now («open» .entry)) (now (times .entry)) r (now (strict .exit)) (now («open» .exit)) (now (times .exit)) ⌝ }
 {
-    let a = judge(file, strict, open);
-    if !accepted(a) {
-        return a;
+    let judged = judge(file, strict, open);
+    if !accepted(judged) {
+        return judged;
     }
     times_all(strict, n, times);
     Answer::Done
