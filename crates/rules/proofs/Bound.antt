@@ -44,8 +44,8 @@ module _ (r : Ranges) (p : Plan) (strict weak : Table) (c : Closed r p strict we
       let hy : y < p.points = (open_ends p g e).to in
       under (c.open_join_rule x y z hx hy hz) (sum (open_edge_bound e) (open_walk_bound hy hz k))
 
--- a closed walk with a negative total starts at a point of the plan
-pub negative_point : (p : Plan) → Pointed p → {x : ℕ} {t : ℤ} → Walk (Open p) x x t → t <ℤ pos zero → x < p.points
+-- a walk with a negative total starts at a point of the plan
+pub negative_point : (p : Plan) → Pointed p → {x y : ℕ} {t : ℤ} → Walk (Open p) x y t → t <ℤ pos zero → x < p.points
 negative_point p g stay h = clash_ℤ h (≤ℤ_refl (pos zero))
 negative_point p g (step e k) h = (open_ends p g e).from
 
