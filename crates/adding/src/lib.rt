@@ -1,4 +1,6 @@
 // Add: one more limit on two tables of a plan file. It is total: it takes any bytes, any limit and any slices.
+#![tactic(auto)]
+
 ghost use Rattle.rules.specs.Plan.{version1};
 ghost use Rattle.rules.specs.Cells.{table_of};
 ghost use Rattle.rules.specs.Tables.{Closed};

@@ -1,4 +1,6 @@
 // Runs Add on case f of the paper and on closed tables that came from nowhere, with cells at both ends of the closed range, and prints a line of code and place for each.
+#![tactic(auto)]
+
 use answers::{code, place};
 use libc::STDOUT_FILENO;
 use rules::Answer;

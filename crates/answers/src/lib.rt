@@ -1,4 +1,6 @@
 // The paper's two numbers of an answer.
+#![tactic(auto)]
+
 ghost use Rattle.std.specs.Prelude.{◌≡◌, eqb};
 ghost use Rattle.rules.specs.Answers.{code_of, place_of};
 

@@ -3,6 +3,8 @@
 // one after the other, the limit, Add's code and place, both tables after it, and what it left in the scratch; Earliest's code and place and, with
 // 0, the times. An entry is twelve bytes, the lengths of a name and of a file and the number of limits to add, then the name, the file and the
 // limits, each as a file has it; the repository's tools/paper_cases.py makes the input and what is to be printed.
+#![tactic(auto)]
+
 ghost use Rattle.std.specs.Prelude.{◌≡◌, ◌≤◌, ◌<◌, nat_abs, length};
 
 use answers::{accepted, code, place};

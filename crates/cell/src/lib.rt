@@ -1,6 +1,8 @@
 // One cell of a table by value: the no-path mark or a number. Here a cell of the paper's tables, 32 bits wide; its 64-bit twin is in
 // wide.rt, and both rest on the same laws (proofs/CellMethods.antt). What a method computes is said on the cells of the paper (specs/Cells.antt
 // of `rules`) and by specs/Steps.antt. A cell that a sweep holds is the mark, or a number from one under the reach to the reach.
+#![tactic(auto)]
+
 pub mod wide;
 
 ghost use Rattle.std.specs.Prelude.{◌≡◌, ◌≤◌, pos, neg_ℤ, ◌+ℤ◌, ◌-ℤ◌};
@@ -14,7 +16,7 @@ ghost use Rattle.rules.specs.Cells.{mark, ◌+ᶜ◌, lowered, uppered, Within};
 ghost use Rattle.cell.specs.Steps.{cell32, is_mark, belowᶜ, smallerᶜ, Stored, Summed, clamped, height, Decides};
 
 // A cell of the paper's tables. The mark is 2,147,483,647, the reach 63,000,000.
-#[derive(Drop)]
+#[derive(Clone, Copy)]
 pub struct Cell32 {
     pub v: i32,
 }

@@ -12,7 +12,7 @@ ghost use Rattle.cell.specs.Steps.{adding, roomy, cell32, cell64, is_mark, below
 use crate::Cell32;
 
 // A cell of the tables that Add works in. The mark is 9,223,372,036,854,775,807, the reach 63 times 63,000,000.
-#[derive(Drop)]
+#[derive(Clone, Copy)]
 pub struct Cell64 {
     pub v: i64,
 }

@@ -1,6 +1,8 @@
 // Reads plan files with two tables each from standard input, and prints of each a line: Sound's code and place, and then Check's. An entry is twelve
 // bytes, the file's length and how many cells the strict and the open table have, then the file, then the cells of both; the repository's
 // tools/tried_tables.py makes the input and what is to be printed.
+#![tactic(auto)]
+
 ghost use Rattle.std.specs.Prelude.{◌+◌, ◌*◌, ◌≤◌, ◌<◌, length};
 
 use answers::{code, place};

@@ -2,6 +2,8 @@
 // paper's sentence "Tables are closed for a plan if ..", as small functions with one loop each; what each decides is said by
 // specs/Parts.antt. They stop at the first violation, save that a row of sums along a middle point is looked at to its end
 // (joins.rt says why). The ranges come first, so that later no sum leaves its type.
+#![tactic(auto)]
+
 mod bounds;
 mod given;
 mod joins;

@@ -1,4 +1,6 @@
 // A field of a lent file: a 32-bit number, its lowest byte first, at any position; read, and written.
+#![tactic(auto)]
+
 ghost use Rattle.std.specs.Prelude.{◌≡◌, [], ◌∷◌, ◌+◌, ◌≤◌, length};
 ghost use Rattle.std.proofs.lemmas.List.Edits.{sets};
 ghost use Rattle.fields.specs.Bytes.{byte_at, word_of, word_at, signed_of, signed_at, word_bytes, bits_of};

@@ -1,6 +1,8 @@
 // Reads damaged and sound plan files from standard input, and prints of each a line: code and place of the file, then code and
 // place with the limit that is handed to Add. Each file stands behind sixteen bytes, its length and that limit's X, Y and w;
 // the repository's tools/damaged_files.py makes the input and what is to be printed.
+#![tactic(auto)]
+
 ghost use Rattle.std.specs.Prelude.{◌≤◌, ◌<◌, length};
 
 use answers::{code, place};

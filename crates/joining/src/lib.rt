@@ -1,5 +1,7 @@
 // Lent tables of 32-bit cells: one cell read, written and lowered; joins along a middle point; looks at all cells. What each function computes is said by the
 // functions of lists of `lowering`. Here one cell.
+#![tactic(auto)]
+
 mod joins;
 mod looks;
 

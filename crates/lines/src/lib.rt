@@ -1,11 +1,13 @@
 // A reason list as a lent slice of line structs, and thin readers of it (document 02, item 4).
 // The borrow checker covers no function with a reference to structs, so `line_at`, `put_line` and `gather` are walked by hand, and are thin; `line_of` and
 // `counted`, which read the six lists of fields that a list of reasons is written to, are covered.
+#![tactic(auto)]
+
 ghost use Rattle.std.specs.Prelude.{◌≡◌, min, set};
 ghost use Rattle.lines.specs.Reads.{no_line, line_at, line_count, listed, Gathered};
 
 // A line of a reason list: its kind (1 to 9, 0 for no line), its two points, its weight and its two references.
-#[derive(Drop)]
+#[derive(Clone, Copy)]
 pub struct Line {
     pub kind: u32,
     pub from: u32,

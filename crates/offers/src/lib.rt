@@ -1,5 +1,7 @@
 // What each try of a reason list offers, read from the work room and the lent file. Nothing is written here: the work room holds the best lines so
 // far (specs/Work.antt), a draft is a line that may be written (specs/Drafts.antt).
+#![tactic(auto)]
+
 use cell::wide::Cell64;
 
 mod given;
@@ -13,7 +15,7 @@ pub use pairs::{kept, no_draft, spot, weight_at};
 pub use rules_of::{lower_draft, upper_draft};
 
 // A line that may be written; of kind 0 where there is none.
-#[derive(Drop)]
+#[derive(Clone, Copy)]
 pub struct Draft {
     pub kind: u32,
     pub from: u32,

@@ -2,6 +2,8 @@
 // prints of each a line: its name, Sound's code and place for the file as it was stored, Judge's for what flash holds at night, and what became
 // of the tables, which held 7 in every cell. An entry is twelve bytes, the lengths of a name, of the file and of what flash holds at night, then
 // those three; the repository's tools/changed_files.py makes the input and what is to be printed.
+#![tactic(auto)]
+
 ghost use Rattle.std.specs.Prelude.{◌≤◌, ◌<◌, length};
 
 use answers::{code, place};

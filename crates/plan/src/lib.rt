@@ -1,6 +1,8 @@
 // The plan file: from lent bytes to the paper's plan, with nothing copied. What reads a file is total: it takes any bytes. Only the answer to a
 // single record asks for something: an index in range, so that the record's offset fits into a place.
 // What each answers is said by the definitions of specs/, which follow the paper.
+#![tactic(auto)]
+
 mod faults;
 mod fits;
 mod record;
@@ -19,7 +21,7 @@ use rules::Answer;
 use scan::{limits, links};
 
 // A limit: point `to` comes at most `weight` after point `from`.
-#[derive(Drop)]
+#[derive(Clone, Copy)]
 pub struct Limit {
     pub from: u32,
     pub to: u32,
@@ -27,7 +29,7 @@ pub struct Limit {
 }
 
 // A link: its activation, its contingent point, its shortest and its longest duration.
-#[derive(Drop)]
+#[derive(Clone, Copy)]
 pub struct Link {
     pub act: u32,
     pub con: u32,
@@ -36,7 +38,7 @@ pub struct Link {
 }
 
 // The header's fields, in the file's order.
-#[derive(Drop)]
+#[derive(Clone, Copy)]
 pub struct Header {
     pub version: u32,
     pub points: u32,

@@ -1,4 +1,6 @@
 // The calls of a post. Each is total: it takes any bytes and any slices, and its statement fixes its answer for all of them.
+#![tactic(auto)]
+
 mod faces;
 mod judging;
 mod timing;

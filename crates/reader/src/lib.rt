@@ -1,13 +1,15 @@
 // The reader struct: a plan file that is lent, held with its counts, giving limit i and link i where they lie.
 // The borrow checker covers no function over a struct that holds a slice, so each is thin: `counted` makes the reader, `limit` and `link` take it
 // apart and call the covered function on the slice and the numbers. Who calls the last two, whose parameters are plain, needs no walk by hand.
+#![tactic(auto)]
+
 ghost use Rattle.std.specs.Prelude.{◌≡◌};
 ghost use Rattle.plan.specs.Layout.{limit_at, link_at};
 ghost use Rattle.plan.specs.Values.{limit_of, link_of};
 ghost use Rattle.reader.specs.Reads.{holding, ReaderOf};
 
 // A lent plan file with its numbers of points, limits and links.
-#[derive(Drop)]
+#[derive(Clone, Copy)]
 pub struct PlanReader<'a> {
     pub file: &'a [u8],
     pub n: usize,

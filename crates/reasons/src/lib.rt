@@ -1,5 +1,7 @@
 // The chain of reasons (document 02, item 4): the list of lines that refutes a night, worked out in a lent work room and written into six lent slices. One pass
 // counts the lines, a second one writes them: a line past the room is not written, and the first pass is given none.
+#![tactic(auto)]
+
 mod listing;
 mod notes;
 mod places;
@@ -20,7 +22,7 @@ use plan::{head, sound};
 use rules::Answer;
 
 // Where the working-out stands: in which of its seven parts, and how many steps of the three loops of that part are done.
-#[derive(Drop)]
+#[derive(Clone, Copy)]
 pub struct Place {
     pub phase: u32,
     pub a: u32,
@@ -29,14 +31,14 @@ pub struct Place {
 }
 
 // One step: a line, of kind 0 where there is none, and where it goes on.
-#[derive(Drop)]
+#[derive(Clone, Copy)]
 pub struct Step {
     pub line: Draft,
     pub next: Place,
 }
 
 // What was worked out: how many lines, and whether the last one closes below zero.
-#[derive(Drop)]
+#[derive(Clone, Copy)]
 pub struct Run {
     pub lines: u64,
     pub ended: bool,

@@ -1,5 +1,7 @@
 // How many lines of a reason list one line rests on (document 02, item 4), of any lent lists: kinds, first and second references of the lines from line 0.
 // The reason list ends with the shortest of the three. Two functions, for join lines and for rule lines, call each other; the line number falls at each call.
+#![tactic(auto)]
+
 ghost use Rattle.std.specs.Prelude.{◌≡◌, min, get_or};
 ghost use Rattle.rests.specs.Rests.{kind_at, is_join, is_rule, rests_on, largest, joins_on, rules_on};
 

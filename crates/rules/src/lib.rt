@@ -1,9 +1,10 @@
 // The rule paper. This crate has no functions: specs/ holds the paper's definitions, proofs/ the theorems on them, and
 // here stand the two types that code and definitions share.
+#![tactic(auto)]
 
 // What a call answers: a case for each code of the paper's table "Numbers returned", with the place where the paper names one.
 // The paper's numbers are codeOf and placeOf of specs/Answers.antt.
-#[derive(Drop)]
+#[derive(Clone, Copy)]
 pub enum Answer {
     // 0: done, or accepted
     Done,
@@ -36,7 +37,7 @@ pub enum Answer {
 }
 
 // Which of two tables: row access is given "a choice, strict or open only".
-#[derive(Drop)]
+#[derive(Clone, Copy)]
 pub enum Side {
     Strict,
     Open,

@@ -1,5 +1,7 @@
 // Add's work in a lent scratch of 64-bit cells: the strict table of Add's plan in its first n x n cells, the open one in the next n x n. Functions on one table are
 // lent its part.
+#![tactic(auto)]
+
 mod copies;
 mod ending;
 mod opening;

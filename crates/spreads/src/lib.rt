@@ -1,4 +1,6 @@
 // An edge spread through a joined table, and rounds of the edges that Lower and Upper yield. What each function computes is said by specs/Spread.antt of `lowering`.
+#![tactic(auto)]
+
 mod lowers;
 mod spreading;
 mod uppers;

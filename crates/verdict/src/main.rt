@@ -1,4 +1,6 @@
 // The small program: one plan file from standard input to `controllable` or `refused CODE PLACE`, and a line feed.
+#![tactic(auto)]
+
 ghost use Rattle.rules.specs.Plan.{version1};
 ghost use Rattle.rules.specs.Calls.{Judged};
 ghost use Rattle.plan.specs.Layout.{plan_of};

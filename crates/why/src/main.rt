@@ -1,5 +1,7 @@
 // The program behind `./night why`: one plan file from standard input to its verdict, as the small program writes it, and for a refused night its chain of reasons, a
 // line for each with its kind, from, to, weight and two references. Where the list is longer than these arrays the verdict is `refused 9 0`.
+#![tactic(auto)]
+
 ghost use Rattle.std.specs.Prelude.{◌≡◌, ◌≤◌, nat_abs, length};
 
 use answers::{accepted, code, place};

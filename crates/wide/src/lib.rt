@@ -1,5 +1,7 @@
 // Add's sweep over 64-bit cells, one table at a time. What each function computes is said by the functions of lists of the 32-bit sweep, at Add's ranges; the laws
 // are those of `lowering`. Here one cell: read, written, and lowered.
+#![tactic(auto)]
+
 mod joins;
 mod looks;
 mod lowers;

@@ -1,5 +1,7 @@
 // Reach words (document 02, item 6): beside a strict table one 64-bit word a point. Bit y of word x says whether the cell from x to y is a number.
 // Each call is total: it takes any tables and any words, and its statement fixes its answer for all of them.
+#![tactic(auto)]
+
 mod asking;
 mod building;
 mod handing;
@@ -12,7 +14,7 @@ use rules::Answer;
 pub use updating::reach_add;
 
 // What `bounded` answers: how many points, the lowest and the highest; 64 stands for no point.
-#[derive(Drop)]
+#[derive(Clone, Copy)]
 pub struct Extent {
     pub answer: Answer,
     pub number: u32,
@@ -21,7 +23,7 @@ pub struct Extent {
 }
 
 // What `both` answers: the points as a word.
-#[derive(Drop)]
+#[derive(Clone, Copy)]
 pub struct Common {
     pub answer: Answer,
     pub word: u64,

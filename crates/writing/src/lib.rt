@@ -1,4 +1,6 @@
 // Plans written: a plan whose fields are lent as lists, into a lent buffer.
+#![tactic(auto)]
+
 mod listed;
 mod puts;
 

@@ -10,4 +10,4 @@ unfolding word_bytes
 put_spec =
     tie.close
     (tie.spec (λ c. search rules) (λ c. search rules) (λ c. search rules) (λ c. search rules)
-    (λ c κs. search rules) (λ c. search rules) (λ c. c.before.before.put-bytes.ensures))
+    (λ c κs. search rules) (λ c. search rules) (λ c. c.before.before.put_bytes.ensures))

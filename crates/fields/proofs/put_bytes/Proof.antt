@@ -9,7 +9,7 @@ use lib.Seq.{lt-length-set}
 use Rattle.fields.proofs.put_bytes.Statement.{statement}
 use Rattle.fields.proofs.put_bytes.Tie as tie
 
-slice_write_buffer_4 : tie.Need-slice-write-buffer-4
+slice_write_buffer_4 : tie.Need-bounds-buffer-at-4
 slice_write_buffer_4 c =
     let s = c.args.buffer.now in
     let i = c.args.at in
@@ -17,7 +17,7 @@ slice_write_buffer_4 c =
     lt-length-set (set one (i + 1) c.args.b) (i + 2) c.args.c
     (lt-length-set one (i + 1) c.args.b (lt-length-set s i c.args.a (omega arith)))
 
-slice_write_buffer_3 : tie.Need-slice-write-buffer-3
+slice_write_buffer_3 : tie.Need-bounds-buffer-at-3
 slice_write_buffer_3 c =
     let s = c.args.buffer.now in
     let i = c.args.at in

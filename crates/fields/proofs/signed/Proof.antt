@@ -11,7 +11,7 @@ use Rattle.fields.proofs.Halves.{signed_low, signed_high, from_below}
 use Rattle.fields.proofs.signed.Statement.{statement}
 use Rattle.fields.proofs.signed.Tie as tie
 
-returns_2 : tie.Need-returns-2
+returns_2 : tie.Need-returns-else-w-lt2147483648
 returns_2 c =
     let w = c.before.args.w in
     rw (from_below w (omega arith) (omega arith))

@@ -12,4 +12,4 @@ unfolding signed_at
 signed_at_spec =
     tie.close
     (tie.spec (λ c κs. search rules) (λ c κs. search rules)
-    (λ c. cc (to_z-of_z w32 c.signed.result (sfits_of c.signed.type-inv))))
+    (λ c. cc (to_z-of_z w32 c.signed.result (sfits_of c.signed.type_inv))))

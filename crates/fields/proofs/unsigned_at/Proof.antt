@@ -9,7 +9,7 @@ use Rattle.fields.specs.Bytes.{byte_at, word_at}
 use Rattle.fields.proofs.unsigned_at.Statement.{statement}
 use Rattle.fields.proofs.unsigned_at.Tie as tie
 
-returns_2 : tie.Need-returns-2
+returns_2 : tie.Need-returns
 unfolding word_at
 returns_2 c =
     let s = c.before.before.before.before.before.before.before.args in

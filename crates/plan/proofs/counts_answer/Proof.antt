@@ -5,7 +5,7 @@ use Rattle.plan.proofs.FirstRefusal.{bad_points, bad_counts, bad_layout, counts_
 use Rattle.plan.proofs.counts_answer.Statement.{statement}
 use Rattle.plan.proofs.counts_answer.Tie as tie
 
-returns_2 : tie.Need-returns-2
+returns_2 : tie.Need-returns-then-not-counts_fit
 returns_2 c = search bad_counts
 
 pub counts_answer_spec : {M : Type 1} → statement M

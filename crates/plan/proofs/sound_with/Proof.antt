@@ -7,11 +7,11 @@ use Rattle.plan.proofs.sound_with.Statement.{statement}
 use Rattle.plan.proofs.sound_with.Tie as tie
 
 -- the answer to the limit that was given
-own : (c : tie.After-limit-answer)
+own : (c : tie.After-limit_answer-own)
     → let a = c.before.before.before.before.before.before.args in
-    let h = c.before.head.result in
-    c.limit-answer.result ≡ limit_answer version1 h.points h.limits (record { from = a.x; to = a.y; weight = a.w })
-own c = rw (to_z-of_z w32 _ c.before.before.before.before.before.before.ranges.w) at c.limit-answer.ensures
+    let h = c.before.head-h.result in
+    c.limit_answer-own.result ≡ limit_answer version1 h.points h.limits (record { from = a.x; to = a.y; weight = a.w })
+own c = rw (to_z-of_z w32 _ c.before.before.before.before.before.before.ranges.w) at c.limit_answer-own.ensures
 
 pub sound_with_spec : {M : Type 1} → statement M
 sound_with_spec =

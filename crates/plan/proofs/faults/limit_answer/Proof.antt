@@ -8,27 +8,27 @@ use Rattle.plan.proofs.faults.limit_answer.Statement.{statement}
 use Rattle.plan.proofs.faults.limit_answer.Tie as tie
 
 -- what was given, and what the test said of the weight
-abbrev given : tie.After-weight-fits → tie.Start
+abbrev given : tie.After-weight_fits-weight → tie.Start
 given c = c.before.before.before.before
 
-weighed : (c : tie.After-weight-fits) → c.weight-fits.result ≡ weight_fits version1 (given c).args.limit.weight
-weighed c = rw (to_z-of_z w32 _ (sfits_of c.before.struct_told.given.1.1.0.1)) at c.weight-fits.ensures
+weighed : (c : tie.After-weight_fits-weight) → c.weight_fits-weight.result ≡ weight_fits version1 (given c).args.limit.weight
+weighed c = rw (to_z-of_z w32 _ (sfits_of c.before.struct_told-1.given.1.1.0.1)) at c.weight_fits-weight.ensures
 
-returns : tie.Need-returns
+returns : tie.Need-returns-then-not-from
 returns c =
     let a = (given c.before).args in
-    from_fault version1 a.n a.i (limit_of a.limit) c.if1.true
+    from_fault version1 a.n a.i (limit_of a.limit) c.if-not-from.true
 
-returns_2 : tie.Need-returns-2
+returns_2 : tie.Need-returns-then-not-to
 returns_2 c =
     let a = (given c.before.before).args in
-    to_fault version1 a.n a.i (limit_of a.limit) c.before.if1.false c.if2.true
+    to_fault version1 a.n a.i (limit_of a.limit) c.before.if-not-from.false c.if-not-to.true
 
-returns_3 : tie.Need-returns-3
+returns_3 : tie.Need-returns-then-not-weight
 returns_3 c =
     let tests = c.before.before.before in
     let a = (given tests).args in
-    weight_fault version1 a.n a.i (limit_of a.limit) c.before.before.if1.false c.before.if2.false (weighed tests) c.if3.true
+    weight_fault version1 a.n a.i (limit_of a.limit) c.before.before.if-not-from.false c.before.if-not-to.false (weighed tests) c.if-not-weight.true
 
 pub limit_answer_spec : {M : Type 1} → statement M
 unfolding version1

@@ -7,41 +7,41 @@ use Rattle.plan.proofs.faults.link_answer.Statement.{statement}
 use Rattle.plan.proofs.faults.link_answer.Tie as tie
 
 -- what was given, from where all tests are made
-abbrev given : tie.After-struct-known7 → tie.Start
+abbrev given : tie.After-struct_known-7-1 → tie.Start
 given c = c.before.before.before.before.before.before.before
 
-returns : tie.Need-returns
+returns : tie.Need-returns-then-not-act
 unfolding version1
 returns c =
     let a = (given c.before).args in
-    act_fault version1 a.n a.m a.i a.new (link_of a.link) c.if1.true
+    act_fault version1 a.n a.m a.i a.new (link_of a.link) c.if-not-act.true
 
-returns_2 : tie.Need-returns-2
+returns_2 : tie.Need-returns-then-not-con
 unfolding version1
 returns_2 c =
     let a = (given c.before.before).args in
-    con_fault version1 a.n a.m a.i a.new (link_of a.link) c.before.if1.false c.if2.true
+    con_fault version1 a.n a.m a.i a.new (link_of a.link) c.before.if-not-act.false c.if-not-con.true
 
-returns_3 : tie.Need-returns-3
+returns_3 : tie.Need-returns-then-not-short
 unfolding version1
 returns_3 c =
     let a = (given c.before.before.before).args in
-    short_fault version1 a.n a.m a.i a.new (link_of a.link) c.before.before.if1.false c.before.if2.false c.if3.true
+    short_fault version1 a.n a.m a.i a.new (link_of a.link) c.before.before.if-not-act.false c.before.if-not-con.false c.if-not-short.true
 
-returns_4 : tie.Need-returns-4
+returns_4 : tie.Need-returns-then-not-long
 unfolding version1
 returns_4 c =
     let act = c.before.before.before in
     let a = (given act.before).args in
-    long_fault version1 a.n a.m a.i a.new (link_of a.link) act.if1.false c.before.before.if2.false c.before.if3.false c.if4.true
+    long_fault version1 a.n a.m a.i a.new (link_of a.link) act.if-not-act.false c.before.before.if-not-con.false c.before.if-not-short.false c.if-not-long.true
 
-returns_5 : tie.Need-returns-5
+returns_5 : tie.Need-returns-then-not-new
 unfolding version1
 returns_5 c =
     let act = c.before.before.before.before in
     let a = (given act.before).args in
-    con_again version1 a.n a.m a.i a.new (link_of a.link) act.if1.false c.before.before.before.if2.false
-    c.before.before.if3.false c.before.if4.false c.if5.true
+    con_again version1 a.n a.m a.i a.new (link_of a.link) act.if-not-act.false c.before.before.before.if-not-con.false
+    c.before.before.if-not-short.false c.before.if-not-long.false c.if-not-new.true
 
 pub link_answer_spec : {M : Type 1} → statement M
 unfolding version1

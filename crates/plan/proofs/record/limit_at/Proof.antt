@@ -10,4 +10,4 @@ limit_at_spec =
     tie.close
     (tie.spec (λ c. search needs) (λ c. search needs) (λ c κs. search needs) (λ c. search needs) (λ c κs. search needs)
     (λ c. search needs) (λ c κs. search needs)
-    (λ c. cc (to_z-of_z w32 c.signed-at.result (sfits_of c.signed-at.type-inv))))
+    (λ c. cc (to_z-of_z w32 c.signed_at.result (sfits_of c.signed_at.type_inv))))

@@ -13,14 +13,14 @@ invariant_loop file n m i₀ i =
 abbrev decreases_loop : tie.decreases_loop
 decreases_loop file n m i₀ i = m - i
 
-returns : tie.Need-returns invariant_loop decreases_loop
+returns : tie.Need-returns-then-not-accepted invariant_loop decreases_loop
 returns c =
     let answered = c.before.before in
     let read = answered.before in
     let turn = read.before.before in
     let a = turn.before.before.args in
-    limits_stop version1 a.n (limit_at a.file.now) turn.loop.i a.m turn.loop.invariant.1 (omega arith) read.limit-at.ensures
-    answered.limit-answer.ensures c.before.accepted.ensures c.if1.true
+    limits_stop version1 a.n (limit_at a.file.now) turn.loop-i.i a.m turn.loop-i.invariant.1 (omega arith) read.limit_at.ensures
+    answered.limit_answer-a.ensures c.before.accepted.ensures c.if-not-accepted.true
 
 pub limits_spec : {M : Type 1} → statement M
 limits_spec =
