@@ -159,7 +159,7 @@ module _ (s : List ℕ) (d : file_answer s ≡ Done) (h : Header) (e : h ≡ hea
 
 module _ (s : List ℕ) (l : Limit) (strict weak t : List ℤ) where
   -- the file's answer with the limit: a refusal stands
-  pub file_refused : {a : Answer} {b : Bool} → a ≡ add_answer s l → b ≡ eqb (code_of a) 0 → not b ≡ true
+  pub file_refused : {a : Answer} {b : Bool} → a ≡ add_answer s l → b ≡ eqb (code_of a) 0 → b ≡ false
       → Added version1 (add_answer s l) (plan_of s) l strict weak t a strict weak t
   file_refused e q n =
       subst⁻¹ (λ (x : Answer). Added version1 (add_answer s l) (plan_of s) l strict weak t x strict weak t) e

@@ -26,12 +26,12 @@ pub decides_same : {A : Type 0} (P : A → Type 0) {x y : A} {b : Bool} → x �
 decides_same P {b} e d = subst (λ z. Decides b (P z)) e d
 
 -- a test that failed refutes whatever asks for what it decides
-pub refuted : {P R : Type 0} {b : Bool} → Decides b P → not b ≡ true → (R → P) → Decides false R
-refuted {b} d e f = decided_no (λ r. d.fails (not-true b e) (f r))
+pub refuted : {P R : Type 0} {b : Bool} → Decides b P → b ≡ false → (R → P) → Decides false R
+refuted {b} d e f = decided_no (λ r. d.fails (e) (f r))
 
 -- one that did not fail gives what it decides
-pub given_by : {P : Type 0} {b : Bool} → Decides b P → not b ≡ false → P
-given_by {b} d e = d.holds (not-false b e)
+pub given_by : {P : Type 0} {b : Bool} → Decides b P → b ≡ true → P
+given_by {b} d e = d.holds (e)
 
 -- the last of several tests decides what they decide together
 pub decides_all : {P R : Type 0} {b : Bool} → Decides b P → (P → R) → (R → P) → Decides b R
@@ -39,13 +39,13 @@ decides_all d f g = record { holds = λ e. f (d.holds e); fails = λ e r. d.fail
 
 -- a cell is a number where neither of it and the number exceeds the other
 module _ (a z : Cell) {v : ℤ} (f : z ≡ num v) {b : Bool} (d : Decides b (a ≤ᶜ z)) where
-  pub not_same : not b ≡ true → Decides false (a ≡ num v)
-  not_same y = decided_no (λ e. d.fails (not-true b y) (subst (λ (c : Cell). c ≤ᶜ z) (f ∙ sym e) (≤ᶜ_refl z)))
+  pub not_same : b ≡ false → Decides false (a ≡ num v)
+  not_same y = decided_no (λ e. d.fails (y) (subst (λ (c : Cell). c ≤ᶜ z) (f ∙ sym e) (≤ᶜ_refl z)))
 
-  pub same : not b ≡ false → {c : Bool} → Decides c (z ≤ᶜ a) → Decides c (a ≡ num v)
+  pub same : b ≡ true → {c : Bool} → Decides c (z ≤ᶜ a) → Decides c (a ≡ num v)
   same y g =
       record {
-        holds = λ e. ≤ᶜ_antisym a z (d.holds (not-false b y)) (g.holds e) ∙ f;
+        holds = λ e. ≤ᶜ_antisym a z (d.holds (y)) (g.holds e) ∙ f;
         fails = λ e i. g.fails e (subst (λ (c : Cell). z ≤ᶜ c) (f ∙ sym i) (≤ᶜ_refl z));
       }
 

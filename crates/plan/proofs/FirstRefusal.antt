@@ -23,22 +23,22 @@ use Rattle.plan.proofs.SoundFile.{is_accepted}
 -- ---- n, m and k
 
 module _ (r : Ranges) (n m k : ℕ) {p : Bool} (e : p ≡ points_fit r n) (laid : Bool) where
-  pub bad_points : not p ≡ true → BadPoints ≡ counts_answer r n m k laid
+  pub bad_points : p ≡ false → BadPoints ≡ counts_answer r n m k laid
   unfolding counts_answer
   bad_points u = simp (failed e u)
 
-  module _ (u : not p ≡ false) {c : Bool} (f : c ≡ counts_fit r m k) where
-    pub bad_counts : not c ≡ true → BadCounts ≡ counts_answer r n m k laid
+  module _ (u : p ≡ true) {c : Bool} (f : c ≡ counts_fit r m k) where
+    pub bad_counts : c ≡ false → BadCounts ≡ counts_answer r n m k laid
     unfolding counts_answer
     bad_counts v = simp (passed e u, failed f v)
 
-    pub bad_layout : not c ≡ false → not laid ≡ true → BadLayout ≡ counts_answer r n m k laid
+    pub bad_layout : c ≡ true → laid ≡ false → BadLayout ≡ counts_answer r n m k laid
     unfolding counts_answer
-    bad_layout v w = simp (passed e u, passed f v, not-true laid w)
+    bad_layout v w = simp (passed e u, passed f v, w)
 
-    pub counts_done : not c ≡ false → not laid ≡ false → Done ≡ counts_answer r n m k laid
+    pub counts_done : c ≡ true → laid ≡ true → Done ≡ counts_answer r n m k laid
     unfolding counts_answer
-    counts_done v w = simp (passed e u, passed f v, not-false laid w)
+    counts_done v w = simp (passed e u, passed f v, w)
 
 -- ---- the file's size and version, then those
 
@@ -67,13 +67,13 @@ module _ (s : List ℕ) {a : Answer} {t : Bool} (e : t ≡ eqb (code_of a) 0) wh
   -- ---- the header, then the limits
 
   module _ {h : Header} (q : h ≡ head_of s) (p : a ≡ head_answer (length s) h) where
-    pub front_stop : not t ≡ true → a ≡ file_front s
+    pub front_stop : t ≡ false → a ≡ file_front s
     front_stop u = rw (front_parts s, ← q, ← p, failed e u)
 
-    pub past_head : not t ≡ false → h.limits ≤ version1.limits
+    pub past_head : t ≡ true → h.limits ≤ version1.limits
     past_head u = (head_counts (length s) h (is_accepted (head_answer (length s) h) p e u)).limits
 
-    pub front_next : not t ≡ false
+    pub front_next : t ≡ true
         → {b : Answer}
         → b ≡ limits_answer version1 h.points 0 (records (limit_at s) 0 h.limits)
         → b ≡ file_front s
@@ -83,14 +83,14 @@ module _ (s : List ℕ) {a : Answer} {t : Bool} (e : t ≡ eqb (code_of a) 0) wh
   -- ---- those, then the links
 
   module _ (p : a ≡ file_front s) where
-    pub file_stop : not t ≡ true → a ≡ file_answer s
+    pub file_stop : t ≡ false → a ≡ file_answer s
     file_stop u = rw (file_parts s, ← p, failed e u)
 
-    pub add_stop : (added : Limit) → not t ≡ true → a ≡ add_answer s added
+    pub add_stop : (added : Limit) → t ≡ false → a ≡ add_answer s added
     unfolding add_answer
     add_stop added u = rw (← p, failed e u)
 
-    module _ (u : not t ≡ false) {h : Header} (q : h ≡ head_of s) where
+    module _ (u : t ≡ true) {h : Header} (q : h ≡ head_of s) where
       past_front : CountsOk version1 h.points h.limits h.links (laid_out (length s) h)
       past_front =
           let d = rw front_parts at (is_accepted (file_front s) p e u) in
@@ -110,11 +110,11 @@ module _ (s : List ℕ) {a : Answer} {t : Bool} (e : t ≡ eqb (code_of a) 0) wh
 
       -- ---- Add's limit between them: o is its answer, y whether that is no refusal
       module _ (added : Limit) {o : Answer} (f : o ≡ limit_answer version1 h.points h.limits added) {y : Bool} (g : y ≡ eqb (code_of o) 0) where
-        pub add_own : not y ≡ true → o ≡ add_answer s added
+        pub add_own : y ≡ false → o ≡ add_answer s added
         unfolding add_answer plan_of
         add_own v = rw (← p, passed e u, ← q, ← f, failed g v)
 
-        pub add_next : not y ≡ false
+        pub add_next : y ≡ true
             → {b : Answer}
             → b ≡ links_answer version1 h.points h.limits 0 [] (records (link_at s h.limits) 0 h.links)
             → b ≡ add_answer s added

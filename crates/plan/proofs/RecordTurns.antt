@@ -37,10 +37,10 @@ earlier_next f j h =
 
 module _ (r : Ranges) (n : ℕ) (f : ℕ → Limit) (i m : ℕ) {a : Answer} (w : a ≡ limits_answer r n i (records f i (m - i))) where
   module _ (h : i < m) {x : Limit} (e : x ≡ f i) {b : Answer} (q : b ≡ limit_answer r n i x) {t : Bool} (s : t ≡ eqb (code_of b) 0) where
-    pub limits_next : not t ≡ false → a ≡ limits_answer r n (i + 1) (records f (i + 1) (m - (i + 1)))
+    pub limits_next : t ≡ true → a ≡ limits_answer r n (i + 1) (records f (i + 1) (m - (i + 1)))
     limits_next u = w ∙ rw (records_next f i m h, ← e, ← q, passed s u, add-one)
 
-    pub limits_stop : not t ≡ true → b ≡ a
+    pub limits_stop : t ≡ false → b ≡ a
     limits_stop u = sym (w ∙ rw (records_next f i m h, ← e, ← q, failed s u))
 
   pub limits_end : m ≤ i → Done ≡ a
@@ -66,13 +66,13 @@ module _ (con : ℕ) (f : ℕ → Link) (j : ℕ) {a : Bool} (w : a ≡ fresh co
 module _ (r : Ranges) (n m : ℕ) (f : ℕ → Link) (i k : ℕ) {a : Answer} (z : a ≡ links_answer r n m i (earlier f i) (records f i (k - i))) where
   module _ (h : i < k) {x : Link} (e : x ≡ f i) {d : Bool} (v : d ≡ fresh x.con (earlier f i))
       {b : Answer} (q : b ≡ link_answer r n m i d x) {t : Bool} (s : t ≡ eqb (code_of b) 0) where
-    pub links_next : not t ≡ false → a ≡ links_answer r n m (i + 1) (earlier f (i + 1)) (records f (i + 1) (k - (i + 1)))
+    pub links_next : t ≡ true → a ≡ links_answer r n m (i + 1) (earlier f (i + 1)) (records f (i + 1) (k - (i + 1)))
     links_next u =
         z
         ∙ rw (records_next f i k h, ← e, ← v, ← q, passed s u, add-one)
         (ap (λ (y : Link). links_answer r n m (suc i) (y ∷ earlier f i) (records f (suc i) (k - suc i))) e)
 
-    pub links_stop : not t ≡ true → b ≡ a
+    pub links_stop : t ≡ false → b ≡ a
     links_stop u = sym (z ∙ rw (records_next f i k h, ← e, ← v, ← q, failed s u))
 
   pub links_end : k ≤ i → Done ≡ a

@@ -193,10 +193,10 @@ add_exactly s added = (there, back)
 
 -- ---- from what the calls ensure: a is what `sound` or `sound_with` answered, t what `accepted` said of it
 
-pub is_accepted : {a : Answer} {t : Bool} (b : Answer) → a ≡ b → t ≡ eqb (code_of a) 0 → not t ≡ false → b ≡ Done
+pub is_accepted : {a : Answer} {t : Bool} (b : Answer) → a ≡ b → t ≡ eqb (code_of a) 0 → t ≡ true → b ≡ Done
 is_accepted {a} b p e u = sym p ∙ code_zero a (passed e u)
 
-pub not_accepted : {a : Answer} {t : Bool} (b : Answer) → a ≡ b → t ≡ eqb (code_of a) 0 → not t ≡ true → b ≢ Done
+pub not_accepted : {a : Answer} {t : Bool} (b : Answer) → a ≡ b → t ≡ eqb (code_of a) 0 → t ≡ false → b ≢ Done
 not_accepted b p e u d = true≢false (sym (ap (λ (x : Answer). eqb (code_of x) 0) (p ∙ d)) ∙ failed e u)
 
 -- the header that was read says how many points and cells there are

@@ -5,12 +5,12 @@ use mathlib.Core.Bool.{Bool, true, false, not, ◌&&◌, and-eq-true_iff}
 use borrow.Author.Tests.{not-true, not-false}
 
 -- the negation held: the test failed
-pub failed : {r t : Bool} → r ≡ t → not r ≡ true → t ≡ false
-failed {r} e n = sym e ∙ not-true r n
+pub failed : {r t : Bool} → r ≡ t → r ≡ false → t ≡ false
+failed {r} e n = sym e ∙ n
 
 -- the negation did not hold: the test passed
-pub passed : {r t : Bool} → r ≡ t → not r ≡ false → t ≡ true
-passed {r} e n = sym e ∙ not-false r n
+pub passed : {r t : Bool} → r ≡ t → r ≡ true → t ≡ true
+passed {r} e n = sym e ∙ n
 
 -- two tests hold together exactly where each does
 pub both : (a b : Bool) → (a && b) ≡ true → (a ≡ true) × (b ≡ true)

@@ -23,7 +23,7 @@ use Rattle.plan.proofs.SoundFile.{header_points, header_cells, not_accepted}
 use Rattle.cell.specs.Steps.{Decides}
 
 -- the file's own refusal
-pub file_refused : (s : List ℕ) (strict weak : List ℤ) {a : Answer} {b : Bool} → a ≡ file_answer s → b ≡ eqb (code_of a) 0 → not b ≡ true
+pub file_refused : (s : List ℕ) (strict weak : List ℤ) {a : Answer} {b : Bool} → a ≡ file_answer s → b ≡ eqb (code_of a) 0 → b ≡ false
     → Checked version1 (file_answer s) (plan_of s) strict weak a
 file_refused s strict weak e t n =
     subst⁻¹ (Checked version1 (file_answer s) (plan_of s) strict weak) e (calls.Checked.bad_file (not_accepted (file_answer s) e t n))

@@ -35,7 +35,7 @@ pub record Enough (s : List ℕ) (strict weak : ℕ) : Type 0 where
   pub open_room : (plan_of s).points * (plan_of s).points ≤ weak
 
 -- the file's own refusal
-pub lent_refused : (s : List ℕ) (strict weak : ℕ) {a : Answer} {b : Bool} → a ≡ file_answer s → b ≡ eqb (code_of a) 0 → not b ≡ true
+pub lent_refused : (s : List ℕ) (strict weak : ℕ) {a : Answer} {b : Bool} → a ≡ file_answer s → b ≡ eqb (code_of a) 0 → b ≡ false
     → Lent s strict weak a
 lent_refused s strict weak e t n = subst⁻¹ (Lent s strict weak) e (before.Lent.bad_file (not_accepted (file_answer s) e t n))
 

@@ -36,7 +36,7 @@ square_small f = square_le f.few
 
 -- an empty part, wherever it lies
 pub no_row : {strict weak part : Bor (List ℤ)} {n x : ℕ} {which : Side} {b : Bool} → b ≡ has_row (length strict.now) (length weak.now) n x
-    → not b ≡ true → part.now ≡ [] → RowHanded strict weak n x which part
+    → b ≡ false → part.now ≡ [] → RowHanded strict weak n x which part
 no_row {strict} {weak} {n = n} {x} {which} e t h =
     let f = failed e t in
     record { cells = h ∙ sym (row_empty strict.now weak.now n x which f); own = λ k. absurd (false≢true (sym f ∙ k)) }

@@ -39,30 +39,30 @@ pub kept_room : (out : List ℕ) (i v j : ℕ) → j < length out → j < length
 kept_room out i v j h = omega (arith, length-set out i v)
 
 module _ (n x : ℕ) (words out : List ℕ) {r : Extent} {t : Bool} (b : BoundedIs n words x r) (e : t ≡ eqb (code_of r.answer) 0) where
-  pub bounded_into_refused : not t ≡ true → BoundedInto n words x out r.answer out
+  pub bounded_into_refused : t ≡ false → BoundedInto n words x out r.answer out
   bounded_into_refused h =
       BoundedInto.refused (into_refused n x x (length words) 3 (length out) b.answer_is (failed e h)) (not_accepted r.answer refl e h)
 
-  pub bounded_into_short : not t ≡ false → length out < 3 → BoundedInto n words x out ShortRoom out
+  pub bounded_into_short : t ≡ true → length out < 3 → BoundedInto n words x out ShortRoom out
   bounded_into_short h k =
       BoundedInto.refused (into_short n x x (length words) 3 (length out) b.answer_is (is_accepted r.answer refl e h) k) (not_done ShortRoom refl)
 
-  pub bounded_into_handed : not t ≡ false → 3 ≤ length out
+  pub bounded_into_handed : t ≡ true → 3 ≤ length out
       → BoundedInto n words x out Done (set (set (set out 0 r.number) 1 r.lowest) 2 r.highest)
   bounded_into_handed h k =
       BoundedInto.handed (into_done n x x (length words) 3 (length out) b.answer_is (is_accepted r.answer refl e h) k) (b.numbers (is_accepted r.answer refl e h))
       (first_more r.highest (first_more r.lowest (first_more r.number first_none (omega arith) refl) (omega arith) refl) (omega arith) refl)
 
 module _ (n x y : ℕ) (words out : List ℕ) {r : Common} {t : Bool} (b : BothIs n words x y r) (e : t ≡ eqb (code_of r.answer) 0) where
-  pub both_into_refused : not t ≡ true → BothInto n words x y out r.answer out
+  pub both_into_refused : t ≡ false → BothInto n words x y out r.answer out
   both_into_refused h =
       BothInto.refused (into_refused n x y (length words) 1 (length out) b.answer_is (failed e h)) (not_accepted r.answer refl e h)
 
-  pub both_into_short : not t ≡ false → length out < 1 → BothInto n words x y out ShortRoom out
+  pub both_into_short : t ≡ true → length out < 1 → BothInto n words x y out ShortRoom out
   both_into_short h k =
       BothInto.refused (into_short n x y (length words) 1 (length out) b.answer_is (is_accepted r.answer refl e h) k) (not_done ShortRoom refl)
 
-  pub both_into_handed : not t ≡ false → 1 ≤ length out → BothInto n words x y out Done (set out 0 r.word)
+  pub both_into_handed : t ≡ true → 1 ≤ length out → BothInto n words x y out Done (set out 0 r.word)
   both_into_handed h k =
       BothInto.handed (into_done n x y (length words) 1 (length out) b.answer_is (is_accepted r.answer refl e h) k)
       (first_more r.word first_none k (b.word_is (is_accepted r.answer refl e h)))

@@ -91,27 +91,27 @@ module _ (l : Lists) where
     unfolding counts n m k
     counted = p ∙ ap (counts_answer version1 n m k) g
 
-    pub counts_stop : not t ≡ true → a ≡ lists_answer l
+    pub counts_stop : t ≡ false → a ≡ lists_answer l
     counts_stop u = rw (parts, ← counted) (simp (failed e u))
 
-    module _ (u : not t ≡ false) where
+    module _ (u : t ≡ true) where
       pub counts_passed : ListsOk l
       counts_passed = ok (is_accepted counts counted e u)
 
       module _ {b : Answer} (q : b ≡ limits_answer version1 l.points 0 (records (limit_in l.from l.to l.weight) 0 (length l.from)))
           {v : Bool} (f : v ≡ eqb (code_of b) 0) where
-        pub limits_refused : not v ≡ true → b ≡ lists_answer l
+        pub limits_refused : v ≡ false → b ≡ lists_answer l
         unfolding limits n m
         limits_refused w = rw (parts, ← counted, passed e u, ← q, failed f w)
 
-        pub links_answer_lem : not v ≡ false → {c : Answer}
+        pub links_answer_lem : v ≡ true → {c : Answer}
             → c ≡ links_answer version1 l.points (length l.from) 0 [] (records (link_in l.act l.con l.short l.long) 0 (length l.act))
             → c ≡ lists_answer l
         unfolding limits links n m k
         links_answer_lem w r = rw (parts, ← counted, passed e u, ← q, passed f w) r
 
 -- past those tests, from what was said of the answer to all of them
-pub passed_ok : (l : Lists) {a : Answer} → a ≡ lists_answer l → {t : Bool} → t ≡ eqb (code_of a) 0 → not t ≡ false → ListsOk l
+pub passed_ok : (l : Lists) {a : Answer} → a ≡ lists_answer l → {t : Bool} → t ≡ eqb (code_of a) 0 → t ≡ true → ListsOk l
 passed_ok l p e u = accepted_ok l (is_accepted (lists_answer l) p e u)
 
 -- ---- the buffer
@@ -147,7 +147,7 @@ laid_down l before room q r s =
     ∙ put_start before (plan_fields (listed_plan l)) (omega (arith, file_size l))
 
 module _ (l : Lists) (before : List ℕ) {a : Answer} (p : a ≡ lists_answer l) {t : Bool} (e : t ≡ eqb (code_of a) 0) where
-  pub refused : not t ≡ true → Wrote l before a before
+  pub refused : t ≡ false → Wrote l before a before
   unfolding write_answer
   refused u =
       record {
@@ -156,7 +156,7 @@ module _ (l : Lists) (before : List ℕ) {a : Answer} (p : a ≡ lists_answer l)
         refused = λ d. refl;
       }
 
-  module _ (u : not t ≡ false) where
+  module _ (u : t ≡ true) where
     -- the file fits or not
     fits : (f : Bool) → leb (length (file_of l)) (length before) ≡ f → write_answer l (length before) ≡ unless f ShortRoom
     unfolding write_answer

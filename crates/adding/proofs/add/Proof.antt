@@ -1,5 +1,5 @@
 -- `adding::add` meets its contract: the file's answer with the limit, room, and the rest. Assumes nothing.
-use Rattle.lowering.proofs.Common.{◌≡◌, arith, back, needs, Done}
+use Rattle.lowering.proofs.Common.{◌≡◌, arith, back, rules, Done}
 use Rattle.plan.specs.File.{add_answer}
 use Rattle.plan.proofs.SoundFile.{add_exactly, is_accepted}
 use Rattle.adding.proofs.AddAnswers.{file_refused, cells_small, strict_short, open_short, scratch_short, lent}
@@ -31,12 +31,12 @@ returns_5 c =
 pub add_spec : {M : Type 1} → statement M
 add_spec =
     tie.close
-    (tie.spec (λ c κs. search needs) (λ c κs. search needs)
+    (tie.spec (λ c κs. search rules) (λ c κs. search rules)
     (λ c. search (file_refused, answered c.before.before))
-    (λ c κs. search needs) (λ c. search needs)
+    (λ c κs. search rules) (λ c. search rules)
     (λ c. omega (arith, cells_small _ ((add_exactly _ _).0 (done c.before)).0 _ c.before.head.ensures))
     (λ c. search (strict_short, done c.before.before))
     (λ c. search (open_short, done c.before.before.before))
-    (λ c. search needs)
+    (λ c. search rules)
     (λ c. search (scratch_short, done c.before.before.before.before))
-    add_to_requires (λ c. search needs) (λ c. search needs) (λ c. search needs) returns_5)
+    add_to_requires (λ c. search rules) (λ c. search rules) (λ c. search rules) returns_5)

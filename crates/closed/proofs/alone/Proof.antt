@@ -1,12 +1,12 @@
 -- `alone` meets its contract: the ranges come first, so that the joins may add. Assumes nothing.
-use Rattle.closed.proofs.Common.{needs, refuted, given_by, decides_all, sound_by}
+use Rattle.closed.proofs.Common.{rules, refuted, given_by, decides_all, sound_by}
 use Rattle.closed.proofs.alone.Statement.{statement}
 use Rattle.closed.proofs.alone.Tie as tie
 
 all_joined_requires : tie.Need-all-joined-requires
 all_joined_requires c κs =
     let one = c.before.before in
-    search (sound_by, given_by one.before.all-within.ensures one.if1.false, needs)
+    search (sound_by, given_by one.before.all-within.ensures one.if1.false, rules)
 
 returns_3 : tie.Need-returns-3
 returns_3 c =
@@ -24,8 +24,8 @@ returns_3 c =
 pub alone_spec : {M : Type 1} → statement M
 alone_spec =
     tie.close
-    (tie.spec (λ c κs. search needs)
+    (tie.spec (λ c κs. search rules)
     (λ c. refuted c.before.all-within.ensures c.if1.true (λ a. a.within))
-    (λ c κs. search needs)
+    (λ c κs. search rules)
     (λ c. refuted c.before.diagonal.ensures c.if2.true (λ a. a.diagonal))
     all_joined_requires returns_3)

@@ -1,5 +1,5 @@
 -- `closed` meets its contract: its four tests together are the paper's sentence. Assumes nothing.
-use Rattle.closed.proofs.Common.{needs, refuted, given_by, decides_all, few, sound_by}
+use Rattle.closed.proofs.Common.{rules, refuted, given_by, decides_all, few, sound_by}
 use Rattle.closed.proofs.ClosedWhole.{closed_by, strict_alone, open_alone, strict_held, open_held}
 use Rattle.closed.proofs.closed.Statement.{statement}
 use Rattle.closed.proofs.closed.Tie as tie
@@ -29,8 +29,8 @@ returns_4 c =
 pub closed_spec : {M : Type 1} → statement M
 closed_spec =
     tie.close
-    (tie.spec (λ c κs. search (few, needs))
+    (tie.spec (λ c κs. search (few, rules))
     (λ c. refuted c.before.alone.ensures c.if1.true (strict_alone c.before.before.before.requires.0))
-    (λ c κs. search (few, needs))
+    (λ c κs. search (few, rules))
     (λ c. refuted c.before.alone2.ensures c.if2.true (open_alone c.before.before.before.before.before.requires.0))
-    strict_held_requires returns_3 (λ c κs. search needs) returns_4)
+    strict_held_requires returns_3 (λ c κs. search rules) returns_4)

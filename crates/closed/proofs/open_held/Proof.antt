@@ -1,5 +1,5 @@
 -- `open_held` meets its contract: two tests, one after the other. Assumes nothing.
-use Rattle.closed.proofs.Common.{needs, link_range, refuted, given_by, decides_all, few}
+use Rattle.closed.proofs.Common.{rules, link_range, refuted, given_by, decides_all, few}
 use Rattle.closed.proofs.open_held.Statement.{statement}
 use Rattle.closed.proofs.open_held.Tie as tie
 
@@ -11,7 +11,7 @@ returns_2 c =
 pub open_held_spec : {M : Type 1} → statement M
 open_held_spec =
     tie.close
-    (tie.spec (λ c κs. search (few, needs))
+    (tie.spec (λ c κs. search (few, rules))
     (λ c. refuted c.before.all_under.ensures c.if1.true (λ h. h.under))
-    (λ c κs. search (link_range, few, needs))
+    (λ c κs. search (link_range, few, rules))
     returns_2)

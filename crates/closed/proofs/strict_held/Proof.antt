@@ -1,5 +1,5 @@
 -- `strict_held` meets its contract: five tests, one after the other. Assumes nothing.
-use Rattle.closed.proofs.Common.{needs, link_range, refuted, given_by, decides_all, few}
+use Rattle.closed.proofs.Common.{rules, link_range, refuted, given_by, decides_all, few}
 use Rattle.lowering.proofs.Common.{limit_range}
 use Rattle.closed.proofs.strict_held.Statement.{statement}
 use Rattle.closed.proofs.strict_held.Tie as tie
@@ -24,13 +24,13 @@ returns_5 c =
 pub strict_held_spec : {M : Type 1} → statement M
 strict_held_spec =
     tie.close
-    (tie.spec (λ c κs. search (limit_range, few, needs))
+    (tie.spec (λ c κs. search (limit_range, few, rules))
     (λ c. refuted c.before.limits-held.ensures c.if1.true (λ h. h.limits))
-    (λ c κs. search (few, needs))
+    (λ c κs. search (few, rules))
     (λ c. refuted c.before.starts-held.ensures c.if2.true (λ h. h.starts))
-    (λ c κs. search (link_range, few, needs))
+    (λ c κs. search (link_range, few, rules))
     (λ c. refuted c.before.links-held.ensures c.if3.true (λ h. h.links))
-    (λ c κs. search (link_range, few, needs))
+    (λ c κs. search (link_range, few, rules))
     (λ c. refuted c.before.all-lowered.ensures c.if4.true (λ h. h.lower))
-    (λ c κs. search (link_range, few, needs))
+    (λ c κs. search (link_range, few, rules))
     returns_5)

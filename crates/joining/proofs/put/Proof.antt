@@ -1,5 +1,5 @@
 -- `joining::put` meets its contract: the cell's index lies within the table. Assumes nothing.
-use Rattle.lowering.proofs.Common.{needs, arith, inside, within, square_le}
+use Rattle.lowering.proofs.Common.{rules, arith, inside, within, square_le}
 use Rattle.joining.proofs.put.Statement.{statement}
 use Rattle.joining.proofs.put.Tie as tie
 
@@ -10,4 +10,4 @@ put_spec =
     (λ c. omega (arith, inside c.before.requires.0 c.before.requires.1, square_le c.before.requires.3))
     (λ c. omega (arith, inside c.before.requires.0 c.before.requires.1, square_le c.before.requires.3))
     (λ c. within c.before.requires.0 c.before.requires.1 c.before.requires.2)
-    (λ c. search needs) (λ c. search needs))
+    (λ c. search rules) (λ c. search rules))

@@ -33,13 +33,13 @@ pub looked_no : {good bad : Type 0} → bad → Looked false good bad
 looked_no b = record { holds = λ e. absurd (true≢false (sym e)); fails = λ _. b }
 
 -- a look that failed speaks against all that asks for what it looked at
-pub looked_failed : {good more bad : Type 0} {b : Bool} → Looked b good bad → not b ≡ true → Looked false more bad
-looked_failed {b = b} l e = looked_no (l.fails (not-true b e))
+pub looked_failed : {good more bad : Type 0} {b : Bool} → Looked b good bad → b ≡ false → Looked false more bad
+looked_failed {b = b} l e = looked_no (l.fails (e))
 
 -- cells within the reach, and a look at the diagonal
-pub looked_both : {r : Ranges} {n : ℕ} {t : List ℤ} {b d : Bool} → Looked b (AllWithin r n t) (Unfair r n t) → not b ≡ false
+pub looked_both : {r : Ranges} {n : ℕ} {t : List ℤ} {b d : Bool} → Looked b (AllWithin r n t) (Unfair r n t) → b ≡ true
     → Looked d (NoneNegative r n t) (Unfair r n t) → Looked d (Fair r n t) (Unfair r n t)
-looked_both {b = b} l e k = record { holds = λ f. record { within = l.holds (not-false b e); diagonal = k.holds f }; fails = k.fails }
+looked_both {b = b} l e k = record { holds = λ f. record { within = l.holds (e); diagonal = k.holds f }; fails = k.fails }
 
 -- one table fair, and a look at another
 pub looked_also : {first second not_first not_second : Type 0} {b : Bool} → first → Looked b second not_second
@@ -73,7 +73,7 @@ CellWithin reach marked t i = Within reach (cell_of marked (get_or t i (pos zero
 
 -- one more, as it was read
 pub within_more : (reach marked : ℕ) (t : List ℤ) {m i : ℕ} {v : ℤ} {b : Bool} → Passed m (CellWithin reach marked t) i → i < m
-    → v ≡ get_or t i (pos zero) → Decides b (Within reach (cell_of marked v)) → not b ≡ false → Passed m (CellWithin reach marked t) (i + 1)
+    → v ≡ get_or t i (pos zero) → Decides b (Within reach (cell_of marked v)) → b ≡ true → Passed m (CellWithin reach marked t) (i + 1)
 within_more reach marked t {b = b} p h e d f = one_more p {b = b} h (rw (← e) d) f
 
 -- a stored number out of reach is under it
@@ -88,7 +88,7 @@ module _ {r : Ranges} {n i : ℕ} {t : List ℤ} where
 
   -- a stored cell out of reach speaks against the plan
   pub within_failed : Sound r n t → i < n * n → {v : ℤ} {b : Bool} → v ≡ get_or t i (pos zero) → Decides b (Within r.reach (cell_of r.mark v))
-      → not b ≡ true → Looked false (AllWithin r n t) (Unfair r n t)
+      → b ≡ false → Looked false (AllWithin r n t) (Unfair r n t)
   unfolding table_of
   within_failed s h {v} {b} e d g = looked_no (by (cell_of r.mark v) refl)
     where
@@ -102,10 +102,10 @@ module _ {r : Ranges} {n i : ℕ} {t : List ℤ} where
       stored = held_read (sound_held s) i h e
 
       by : (c : Cell) → cell_of r.mark v ≡ c → Unfair r n t
-      by mark k = absurd (d.fails (not-true b g) (rw k tt))
+      by mark k = absurd (d.fails (g) (rw k tt))
       by (num c) k =
           low at.row_below at.column_below (sym cell ∙ k)
-          (under r.reach c (subst (Stored r.reach) k stored) (λ w. d.fails (not-true b g) (subst (Within r.reach) (sym k) w)))
+          (under r.reach c (subst (Stored r.reach) k stored) (λ w. d.fails (g) (subst (Within r.reach) (sym k) w)))
 
 -- ---- the diagonal
 

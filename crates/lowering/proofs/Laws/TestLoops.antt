@@ -26,12 +26,12 @@ module _ {m : ℕ} {P : ℕ → Type 0} where
     passes h p = record { bound = omega arith; each = below_more P i t.each p }
 
     -- one more passed its test
-    pub one_more : {b : Bool} → i < m → Decides b (P i) → not b ≡ false → Passed m P (i + 1)
-    one_more {b} h d e = passes h (d.holds (not-false b e))
+    pub one_more : {b : Bool} → i < m → Decides b (P i) → b ≡ true → Passed m P (i + 1)
+    one_more {b} h d e = passes h (d.holds (e))
 
     -- one failed
-    pub one_failed : {b : Bool} → i < m → Decides b (P i) → not b ≡ true → Decides false ((x : ℕ) → x < m → P x)
-    one_failed {b} h d e = decided_no (λ all. d.fails (not-true b e) (all i h))
+    pub one_failed : {b : Bool} → i < m → Decides b (P i) → b ≡ false → Decides false ((x : ℕ) → x < m → P x)
+    one_failed {b} h d e = decided_no (λ all. d.fails (e) (all i h))
 
     -- all passed
     pub passed_all : m ≤ i → (x : ℕ) → x < m → P x
@@ -53,19 +53,19 @@ module _ {m : ℕ} {P : ℕ → Type 0} where
 
   module _ {i : ℕ} {b : Bool} (t : Tried m P i b) where
     -- one more passed its test
-    pub tried_more : {d : Bool} → i < m → Decides d (P i) → not d ≡ false → Tried m P (i + 1) b
+    pub tried_more : {d : Bool} → i < m → Decides d (P i) → d ≡ true → Tried m P (i + 1) b
     tried_more {d} h k e =
         record {
           bound = omega arith;
           decides = record {
-            holds = λ q. below_more P i (t.decides.holds q) (k.holds (not-false d e));
+            holds = λ q. below_more P i (t.decides.holds q) (k.holds (e));
             fails = λ q all. t.decides.fails q (λ x l. all x (omega arith));
           };
         }
 
     -- one failed
-    pub tried_failed : {d : Bool} → i < m → Decides d (P i) → not d ≡ true → Tried m P (i + 1) false
-    tried_failed {d} h k e = record { bound = omega arith; decides = decided_no (λ all. k.fails (not-true d e) (all i (omega arith))) }
+    pub tried_failed : {d : Bool} → i < m → Decides d (P i) → d ≡ false → Tried m P (i + 1) false
+    tried_failed {d} h k e = record { bound = omega arith; decides = decided_no (λ all. k.fails (e) (all i (omega arith))) }
 
     -- all were tried
     pub all_tried : m ≤ i → Decides b ((x : ℕ) → x < m → P x)

@@ -1,5 +1,5 @@
 -- `check` meets its contract: the file's answer, room, and the closed test, in the paper's order. Assumes nothing.
-use Rattle.lowering.proofs.Common.{◌≡◌, arith, needs, Done, file_answer}
+use Rattle.lowering.proofs.Common.{◌≡◌, arith, rules, Done, file_answer}
 use Rattle.plan.proofs.SoundFile.{is_accepted}
 use Rattle.adding.proofs.AddAnswers.{ready_of, cells_small}
 use Rattle.post.proofs.CheckAnswers.{file_refused, strict_short, open_short, are_closed, are_not}
@@ -23,9 +23,9 @@ returns_5 c =
 pub check_spec : {M : Type 1} → statement M
 check_spec =
     tie.close
-    (tie.spec (λ c κs. search needs) (λ c κs. search needs)
+    (tie.spec (λ c κs. search rules) (λ c κs. search rules)
     (λ c. file_refused _ _ _ c.before.before.sound.ensures c.before.accepted.ensures c.if1.true)
-    (λ c κs. search needs) (λ c. search needs)
+    (λ c κs. search rules) (λ c. search rules)
     (λ c. omega (arith, cells_small _ (done c.before) _ c.before.head.ensures))
     (λ c. strict_short _ _ _ (done c.before.before) _ c.before.before.head.ensures c.if2.true)
     (λ c. open_short _ _ _ (done c.before.before.before) _ c.before.before.before.head.ensures c.if3.true)

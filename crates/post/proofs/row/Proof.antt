@@ -1,5 +1,5 @@
 -- `row` meets its contract: the row lies within its table and is the table's own cells. Assumes nothing.
-use Rattle.lowering.proofs.Common.{needs, arith, ◌≡◌, length}
+use Rattle.lowering.proofs.Common.{rules, arith, ◌≡◌, length}
 use native.Mathlib.Nat.{add-sub_cancel_left}
 use mathlib.Core.Bool.{true}
 use Rattle.plan.proofs.TestsMade.{passed}
@@ -24,7 +24,7 @@ returns_2 c =
     rw c.before.enum_told.given.1
     (record {
       cells = simp add-sub_cancel_left (cc (row_there a.strict.now a.«open».now a.n a.x Strict (there c.before.before.before)));
-      own = λ e. search needs;
+      own = λ e. search rules;
     })
 
 returns_3 : tie.Need-returns-3
@@ -33,21 +33,21 @@ returns_3 c =
     rw c.before.enum-told2.given.1
     (record {
       cells = simp add-sub_cancel_left (cc (row_there a.strict.now a.«open».now a.n a.x Open (there c.before.before.before)));
-      own = λ e. search needs;
+      own = λ e. search rules;
     })
 
 pub row_spec : {M : Type 1} → statement M
 row_spec =
     tie.close
-    (tie.spec (λ c κs. search needs) (λ c. search needs) (λ c. search no_row)
+    (tie.spec (λ c κs. search rules) (λ c. search rules) (λ c. search no_row)
     (λ c. omega (arith, row_end (fits c), square_small (fits c)))
     (λ c. omega (arith, row_end (fits c), square_small (fits c)))
-    (λ c. search needs)
+    (λ c. search rules)
     (λ c. omega (arith, row_end (fits c.before.before), square_small (fits c.before.before)))
-    (λ c. search needs) (λ c. search needs)
+    (λ c. search rules) (λ c. search rules)
     (λ c. let f = fits c.before.before in omega (arith, row_end f))
-    (λ c. search needs)
+    (λ c. search rules)
     (λ c. omega (arith, row_end (fits c.before.before), square_small (fits c.before.before)))
-    (λ c. search needs) (λ c. search needs)
+    (λ c. search rules) (λ c. search rules)
     (λ c. let f = fits c.before.before in omega (arith, row_end f))
     returns_2 returns_3)

@@ -1,6 +1,6 @@
 -- `lay_down` meets its contract: header, limits and links one after the other.
 -- Assumes nothing.
-use Rattle.writing.proofs.Common.{arith, needs, version1}
+use Rattle.writing.proofs.Common.{arith, rules, version1}
 use Rattle.writing.specs.PlanLists.{Lists, lists}
 use Rattle.writing.proofs.WriteAnswers.{laid_down}
 use Rattle.writing.proofs.lay_down.Statement.{statement}
@@ -24,5 +24,5 @@ lay_down_spec =
     tie.close
     (tie.spec (λ c. omega arith) (λ c. omega arith)
     (λ c κs. omega arith) (λ c κs. omega arith) (λ c κs. omega arith)
-    (λ c. search needs)
+    (λ c. search rules)
     returns)

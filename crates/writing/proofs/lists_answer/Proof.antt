@@ -1,6 +1,6 @@
 -- `lists_answer` meets its contract: n, m, k and the lengths, then the limits, then the links.
 -- Assumes nothing.
-use Rattle.writing.proofs.Common.{arith, needs, version1}
+use Rattle.writing.proofs.Common.{arith, rules, version1}
 use Rattle.writing.specs.PlanLists.{Lists, lists}
 use Rattle.writing.specs.Puts.{ListsOk}
 use Rattle.writing.proofs.WriteAnswers.{counts_stop, counts_passed, limits_refused, links_answer_lem}
@@ -39,11 +39,11 @@ pub lists_answer_spec : {M : Type 1} → statement M
 unfolding version1
 lists_answer_spec =
     tie.close
-    (tie.spec (λ c κs. search needs) (λ c κs. search needs) (λ c κs. search needs)
+    (tie.spec (λ c κs. search rules) (λ c κs. search rules) (λ c κs. search rules)
     (λ c. search counts_stop)
     (λ c. let o = known c in omega arith)
     (λ c κs. let o = known c in omega arith)
-    (λ c κs. search needs)
+    (λ c κs. search rules)
     returns_2
     (λ c. let o = known c.before.before.before in omega arith)
     (λ c. let o = known c.before.before.before in omega arith)

@@ -1,6 +1,6 @@
 -- `write` meets its contract: the lists' own refusal, a buffer that is too short, or the file.
 -- Assumes nothing.
-use Rattle.writing.proofs.Common.{arith, needs, version1}
+use Rattle.writing.proofs.Common.{arith, rules, version1}
 use Rattle.writing.specs.PlanLists.{Lists, lists}
 use Rattle.writing.specs.Puts.{ListsOk}
 use Rattle.writing.proofs.WriteAnswers.{passed_ok, refused, short, wrote}
@@ -33,10 +33,10 @@ pub write_spec : {M : Type 1} → statement M
 unfolding version1
 write_spec =
     tie.close
-    (tie.spec (λ c κs. search needs) (λ c κs. search needs)
+    (tie.spec (λ c κs. search rules) (λ c κs. search rules)
     returns
     (λ c. let o = known c in omega arith) (λ c. let o = known c in omega arith) (λ c. let o = known c in omega arith) (λ c. let o = known c in omega arith)
     returns_2
     (λ c κs. (known c.before.before, omega arith))
-    (λ c. search needs)
+    (λ c. search rules)
     returns_3)

@@ -1,5 +1,5 @@
 -- `Cell32::in_reach` meets its contract: the mark is in reach, and a number where no test against an end holds. Assumes nothing.
-use Rattle.cell.proofs.Common.{needs, ◌≡◌, tested, version1, num, cell32, is_mark_lem, no_mark, reach_mark, reach_above, reach_below, reach_within}
+use Rattle.cell.proofs.Common.{rules, ◌≡◌, tested, version1, num, cell32, is_mark_lem, no_mark, reach_mark, reach_above, reach_below, reach_within}
 use Rattle.cell.proofs.Cell32.in_reach.Statement.{statement}
 use Rattle.cell.proofs.Cell32.in_reach.Tie as tie
 
@@ -10,10 +10,10 @@ pub in_reach_spec : {M : Type 1} → statement M
 unfolding version1
 in_reach_spec =
     tie.close
-    (tie.spec (λ c κs. search needs)
+    (tie.spec (λ c κs. search rules)
     (λ c. search (reach_mark, is_mark_lem))
-    (λ c κs. search needs)
+    (λ c κs. search rules)
     (λ c. search (reach_above version1.reach (cell c.before.before), tested))
-    (λ c κs. search needs)
+    (λ c κs. search rules)
     (λ c. search (reach_below version1.reach (cell c.before.before.before.before), tested))
     (λ c. search (reach_within version1.reach (cell c.before.before.before.before), tested)))

@@ -1,5 +1,5 @@
 -- `Cell32::larger` meets its contract, by the test that `less` makes. Assumes nothing.
-use Rattle.cell.proofs.Common.{needs, larger, tested}
+use Rattle.cell.proofs.Common.{rules, larger, tested}
 use Rattle.cell.proofs.Cell32.larger.Statement.{statement}
 use Rattle.cell.proofs.Cell32.larger.Tie as tie
 
@@ -7,6 +7,6 @@ pub larger_spec : {M : Type 1} → statement M
 unfolding larger
 larger_spec =
     tie.close
-    (tie.spec (λ c κs. search needs)
+    (tie.spec (λ c κs. search rules)
     (λ c. rw (tested c.before.less.ensures c.if1.true))
     (λ c. rw (tested c.before.less.ensures c.if1.false)))

@@ -1,5 +1,5 @@
 -- `given::limits_held` meets its contract: a turn for each limit. Assumes nothing.
-use Rattle.closed.proofs.Common.{needs, ◌-◌, arith, version1, table_of, Passed, none_yet, one_more, one_failed, all_passed}
+use Rattle.closed.proofs.Common.{rules, ◌-◌, arith, version1, table_of, Passed, none_yet, one_more, one_failed, all_passed}
 use Rattle.lowering.proofs.Common.{limit_at}
 use Rattle.closed.specs.Parts.{LimitHeld}
 use Rattle.closed.proofs.given.limits_held.Statement.{statement}
@@ -12,9 +12,9 @@ pub limits_held_spec : {M : Type 1} → statement M
 limits_held_spec =
     tie.close
     (tie.spec invariant_loop (λ file n m k t i₀ i. m - i)
-    (λ c. none_yet) (λ c κs. search needs)
-    (λ c κs. search (c.limit-of.ensures, c.before.before.before.before.requires.0, needs))
-    (λ c. search (one_failed c.before.before.before.before.loop.invariant, ← c.before.before.limit-of.ensures, needs))
-    (λ c. search needs) (λ c. search needs)
-    (λ c. search (one_more, ← c.before.before.limit-of.ensures, needs))
+    (λ c. none_yet) (λ c κs. search rules)
+    (λ c κs. search (c.limit-of.ensures, c.before.before.before.before.requires.0, rules))
+    (λ c. search (one_failed c.before.before.before.before.loop.invariant, ← c.before.before.limit-of.ensures, rules))
+    (λ c. search rules) (λ c. search rules)
+    (λ c. search (one_more, ← c.before.before.limit-of.ensures, rules))
     (λ c. all_passed c.before.loop.invariant (omega arith)))

@@ -1,5 +1,5 @@
 -- `given::link_held` meets its contract: the longest edge, then the shortest. Assumes nothing.
-use Rattle.closed.proofs.Common.{needs, refuted, given_by, decides_all, span_cell}
+use Rattle.closed.proofs.Common.{rules, refuted, given_by, decides_all, span_cell}
 use Rattle.lowering.proofs.Laws.FirstAsRead.{minus_fits, minus_cell}
 use Rattle.closed.proofs.given.link_held.Statement.{statement}
 use Rattle.closed.proofs.given.link_held.Tie as tie
@@ -22,7 +22,7 @@ returns_2 c =
 pub link_held_spec : {M : Type 1} → statement M
 link_held_spec =
     tie.close
-    (tie.spec (λ c. search needs) (λ c. search needs) (λ c κs. search needs) (λ c κs. search needs) returns
-    (λ c κs. search needs)
+    (tie.spec (λ c. search rules) (λ c. search rules) (λ c κs. search rules) (λ c κs. search rules) returns
+    (λ c κs. search rules)
     (λ c κs. minus_fits c.before.before.before.before.before.before.requires.0 c.of2.ensures)
-    (λ c κs. search needs) returns_2)
+    (λ c κs. search rules) returns_2)

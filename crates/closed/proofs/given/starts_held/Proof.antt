@@ -1,5 +1,5 @@
 -- `given::starts_held` meets its contract: a turn for each point. Assumes nothing.
-use Rattle.closed.proofs.Common.{needs, ◌-◌, arith, pos, version1, num, ◌≤ᶜ◌, table_of, Passed, none_yet, one_more, one_failed, all_passed}
+use Rattle.closed.proofs.Common.{rules, ◌-◌, arith, pos, version1, num, ◌≤ᶜ◌, table_of, Passed, none_yet, one_more, one_failed, all_passed}
 use Rattle.closed.proofs.given.starts_held.Statement.{statement}
 use Rattle.closed.proofs.given.starts_held.Tie as tie
 
@@ -10,8 +10,8 @@ pub starts_held_spec : {M : Type 1} → statement M
 starts_held_spec =
     tie.close
     (tie.spec invariant_loop (λ t n x₀ x. n - x)
-    (λ c. none_yet) (λ c κs. search needs)
-    (λ c. search (one_failed c.before.before.before.loop.invariant, needs))
-    (λ c. search needs) (λ c. search needs)
-    (λ c. search (one_more, needs))
+    (λ c. none_yet) (λ c κs. search rules)
+    (λ c. search (one_failed c.before.before.before.loop.invariant, rules))
+    (λ c. search rules) (λ c. search rules)
+    (λ c. search (one_more, rules))
     (λ c. all_passed c.before.loop.invariant (omega arith)))

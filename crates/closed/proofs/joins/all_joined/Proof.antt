@@ -1,5 +1,5 @@
 -- `joins::all_joined` meets its contract: a turn for each middle. Assumes nothing.
-use Rattle.closed.proofs.Common.{needs, ◌-◌, arith, version1, table_of, Passed, none_yet, one_more, one_failed, all_passed}
+use Rattle.closed.proofs.Common.{rules, ◌-◌, arith, version1, table_of, Passed, none_yet, one_more, one_failed, all_passed}
 use Rattle.closed.specs.Parts.{MiddleJoined}
 use Rattle.closed.proofs.joins.all_joined.Statement.{statement}
 use Rattle.closed.proofs.joins.all_joined.Tie as tie
@@ -17,8 +17,8 @@ pub all_joined_spec : {M : Type 1} → statement M
 all_joined_spec =
     tie.close
     (tie.spec invariant_loop decreases_loop
-    (λ c. none_yet) (λ c κs. search needs)
-    (λ c. search (one_failed c.before.before.before.loop.invariant, needs))
-    (λ c. search needs) (λ c. search needs)
-    (λ c. search (one_more, needs))
+    (λ c. none_yet) (λ c κs. search rules)
+    (λ c. search (one_failed c.before.before.before.loop.invariant, rules))
+    (λ c. search rules) (λ c. search rules)
+    (λ c. search (one_more, rules))
     returns_2)

@@ -1,5 +1,5 @@
 -- `joins::row_joined` meets its contract: nothing is asked of a row with no path to the middle, else a turn for each cell. Assumes nothing.
-use Rattle.closed.proofs.Common.{needs, ◌-◌, arith, version1, ◌≤ᶜ◌, table_of, read_stored}
+use Rattle.closed.proofs.Common.{rules, ◌-◌, arith, version1, ◌≤ᶜ◌, table_of, read_stored}
 use mathlib.Core.Logic.{⊎_elim}
 use Rattle.rules.specs.Cells.{◌+ᶜ◌}
 use Rattle.cell.proofs.CellMethods.{is_mark_lem}
@@ -31,9 +31,9 @@ pub row_joined_spec : {M : Type 1} → statement M
 row_joined_spec =
     tie.close
     (tie.spec invariant_loop decreases_loop
-    (λ c κs. search needs) (λ c κs. search needs)
+    (λ c κs. search rules) (λ c κs. search rules)
     (λ c. row_at_mark _ _ _ _ _ c.before.before.get.ensures (is_mark_lem c.before.is_mark_lem.ensures c.if1.true))
-    (λ c. none_tried) (λ c κs. search needs)
-    (λ c κs. search (read_stored, needs))
-    (λ c κs. search needs) (λ c. search needs) (λ c. search needs) loop_again
+    (λ c. none_tried) (λ c κs. search rules)
+    (λ c κs. search (read_stored, rules))
+    (λ c κs. search rules) (λ c. search rules) (λ c. search rules) loop_again
     (λ c. all_tried c.before.loop.invariant (omega arith)))

@@ -1,5 +1,5 @@
 -- `lower::all_lowered` meets its contract: a turn for each link. Assumes nothing.
-use Rattle.closed.proofs.Common.{needs, ◌-◌, arith, version1, table_of, link_at, Passed, none_yet, one_more}
+use Rattle.closed.proofs.Common.{rules, ◌-◌, arith, version1, table_of, link_at, Passed, none_yet, one_more}
 use Rattle.closed.proofs.Common.{one_failed, all_passed}
 use Rattle.closed.proofs.CellTests.{decides_same}
 use Rattle.closed.specs.Parts.{LinkLowered}
@@ -23,8 +23,8 @@ pub all_lowered_spec : {M : Type 1} → statement M
 all_lowered_spec =
     tie.close
     (tie.spec invariant_loop decreases_loop
-    (λ c. none_yet) (λ c κs. search needs)
-    (λ c κs. search (c.link_of.ensures, c.before.before.before.before.requires.0, needs))
-    returns (λ c. search needs) (λ c. search needs)
-    (λ c. search (one_more, ← c.before.before.link_of.ensures, needs))
+    (λ c. none_yet) (λ c κs. search rules)
+    (λ c κs. search (c.link_of.ensures, c.before.before.before.before.requires.0, rules))
+    returns (λ c. search rules) (λ c. search rules)
+    (λ c. search (one_more, ← c.before.before.link_of.ensures, rules))
     (λ c. all_passed c.before.loop.invariant (omega arith)))

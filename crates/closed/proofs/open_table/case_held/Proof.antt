@@ -1,5 +1,5 @@
 -- `open_table::case_held` meets its contract. Assumes nothing.
-use Rattle.closed.proofs.Common.{needs, arith, span_cell}
+use Rattle.closed.proofs.Common.{rules, arith, span_cell}
 use Rattle.closed.proofs.open_table.case_held.Statement.{statement}
 use Rattle.closed.proofs.open_table.case_held.Tie as tie
 
@@ -12,4 +12,4 @@ returns c =
 pub case_held_spec : {M : Type 1} → statement M
 case_held_spec =
     tie.close
-    (tie.spec (λ c. search needs) (λ c. search needs) (λ c κs. search needs) (λ c κs. search needs) returns)
+    (tie.spec (λ c. search rules) (λ c. search rules) (λ c κs. search rules) (λ c κs. search rules) returns)

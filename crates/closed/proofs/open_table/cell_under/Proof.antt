@@ -1,5 +1,5 @@
 -- `open_table::cell_under` meets its contract. Assumes nothing.
-use Rattle.closed.proofs.Common.{needs, version1, read_cell}
+use Rattle.closed.proofs.Common.{rules, version1, read_cell}
 use Rattle.closed.proofs.open_table.cell_under.Statement.{statement}
 use Rattle.closed.proofs.open_table.cell_under.Tie as tie
 
@@ -9,4 +9,4 @@ returns c =
     rw (← read_cell version1 a.n a.x a.y a.strict.now _ c.before.get.ensures) c.at_most.ensures
 
 pub cell_under_spec : {M : Type 1} → statement M
-cell_under_spec = tie.close (tie.spec (λ c κs. search needs) (λ c κs. search needs) returns)
+cell_under_spec = tie.close (tie.spec (λ c κs. search rules) (λ c κs. search rules) returns)

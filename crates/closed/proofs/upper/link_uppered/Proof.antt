@@ -1,5 +1,5 @@
 -- `upper::link_uppered` meets its contract: a turn for each point. Assumes nothing.
-use Rattle.closed.proofs.Common.{needs, ◌-◌, arith, version1, table_of, link_of, Passed, none_yet, one_more, one_failed, all_passed}
+use Rattle.closed.proofs.Common.{rules, ◌-◌, arith, version1, table_of, link_of, Passed, none_yet, one_more, one_failed, all_passed}
 use Rattle.closed.specs.Parts.{PointUppered}
 use Rattle.closed.proofs.upper.link_uppered.Statement.{statement}
 use Rattle.closed.proofs.upper.link_uppered.Tie as tie
@@ -11,8 +11,8 @@ pub link_uppered_spec : {M : Type 1} → statement M
 link_uppered_spec =
     tie.close
     (tie.spec invariant_loop (λ t n link x₀ x. n - x)
-    (λ c. none_yet) (λ c κs. search needs)
-    (λ c. search (one_failed c.before.before.before.loop.invariant, needs))
-    (λ c. search needs) (λ c. search needs)
-    (λ c. search (one_more, needs))
+    (λ c. none_yet) (λ c κs. search rules)
+    (λ c. search (one_failed c.before.before.before.loop.invariant, rules))
+    (λ c. search rules) (λ c. search rules)
+    (λ c. search (one_more, rules))
     (λ c. all_passed c.before.loop.invariant (omega arith)))

@@ -1,5 +1,5 @@
 -- `within::cell_zero` meets its contract: neither of the cell and 0 exceeds the other. Assumes nothing.
-use Rattle.closed.proofs.Common.{needs, arith, version1, read_cell, span_cell}
+use Rattle.closed.proofs.Common.{rules, arith, version1, read_cell, span_cell}
 use Rattle.closed.proofs.CellTests.{not_same, same}
 use Rattle.closed.proofs.within.cell_zero.Statement.{statement}
 use Rattle.closed.proofs.within.cell_zero.Tie as tie
@@ -19,5 +19,5 @@ returns_2 c =
 pub cell_zero_spec : {M : Type 1} → statement M
 cell_zero_spec =
     tie.close
-    (tie.spec (λ c κs. search needs) (λ c κs. search needs) (λ c κs. search needs) returns (λ c κs. search needs)
+    (tie.spec (λ c κs. search rules) (λ c κs. search rules) (λ c κs. search rules) returns (λ c κs. search rules)
     returns_2)

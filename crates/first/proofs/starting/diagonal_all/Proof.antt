@@ -1,5 +1,5 @@
 -- `starting::diagonal_all` meets its contract: a turn for each point. Assumes nothing.
-use Rattle.lowering.proofs.Common.{needs, ◌-◌, version1, version1_coherent, num, pos, lower_cell, diagonal_all, diagonal_lowers, lowering_by}
+use Rattle.lowering.proofs.Common.{rules, ◌-◌, version1, version1_coherent, num, pos, lower_cell, diagonal_all, diagonal_lowers, lowering_by}
 use Rattle.lowering.proofs.Common.{span_cell, Turns, turns_none, turns_more, turns_all}
 use Rattle.first.proofs.starting.diagonal_all.Statement.{statement}
 use Rattle.first.proofs.starting.diagonal_all.Tie as tie
@@ -13,7 +13,7 @@ diagonal_all_spec =
     tie.close
     (tie.spec invariant_loop (λ t₀ n x₀ t x. n - x)
     (λ c. turns_none c.requires.1)
-    (λ c κs. search needs) (λ c κs. search needs) (λ c. search needs) (λ c. search needs)
-    (λ c. search (turns_more, diagonal_lowers version1 version1_coherent, lowering_by, span_cell, needs))
-    (λ c. search needs)
-    (λ c. search (turns_all, needs)))
+    (λ c κs. search rules) (λ c κs. search rules) (λ c. search rules) (λ c. search rules)
+    (λ c. search (turns_more, diagonal_lowers version1 version1_coherent, lowering_by, span_cell, rules))
+    (λ c. search rules)
+    (λ c. search (turns_all, rules)))

@@ -1,5 +1,5 @@
 -- `starting::first_strict` meets its contract: the mark everywhere, then the diagonal, limits, start edges and links. Assumes nothing.
-use Rattle.lowering.proofs.Common.{needs, arith, square_le, few}
+use Rattle.lowering.proofs.Common.{rules, arith, square_le, few}
 use Rattle.lowering.specs.Sweep.{first_strict}
 use Rattle.lowering.proofs.Laws.StillStored.{sound_marks, sound_diagonal, sound_limits, sound_starts}
 use Rattle.first.proofs.starting.first_strict.Statement.{statement}
@@ -32,6 +32,6 @@ unfolding first_strict
 first_strict_spec =
     tie.close
     (tie.spec (λ c. omega (arith, square_le (few c.before.before.requires.0)))
-    (λ c κs. search needs)
-    (λ c κs. search (few, sound_marks, needs))
-    limit_all_requires start_all_requires link_all_requires (λ c. search needs) (λ c. cc))
+    (λ c κs. search rules)
+    (λ c κs. search (few, sound_marks, rules))
+    limit_all_requires start_all_requires link_all_requires (λ c. search rules) (λ c. cc))

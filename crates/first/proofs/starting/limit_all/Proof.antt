@@ -1,5 +1,5 @@
 -- `starting::limit_all` meets its contract: a turn for each limit. Assumes nothing.
-use Rattle.lowering.proofs.Common.{needs, ◌-◌, version1, limit_at, limit_cell, limit_all, few, Turns, turns_none, turns_more, turns_all}
+use Rattle.lowering.proofs.Common.{rules, ◌-◌, version1, limit_at, limit_cell, limit_all, few, Turns, turns_none, turns_more, turns_all}
 use Rattle.lowering.proofs.Laws.FirstAsRead.{limit_read}
 use Rattle.lowering.proofs.Laws.StillStored.{limit_cells_lower}
 use Rattle.first.proofs.starting.limit_all.Statement.{statement}
@@ -14,9 +14,9 @@ limit_all_spec =
     tie.close
     (tie.spec invariant_loop (λ file n m k t₀ i₀ t i. m - i)
     (λ c. turns_none c.before.requires.1)
-    (λ c κs. search needs)
-    (λ c κs. search (few, limit_read, needs))
-    (λ c. search needs) (λ c. search needs)
-    (λ c. search (turns_more, limit_cells_lower, ← c.before.before.before.limit-of.ensures, needs))
-    (λ c. search needs)
-    (λ c. search (turns_all, needs)))
+    (λ c κs. search rules)
+    (λ c κs. search (few, limit_read, rules))
+    (λ c. search rules) (λ c. search rules)
+    (λ c. search (turns_more, limit_cells_lower, ← c.before.before.before.limit-of.ensures, rules))
+    (λ c. search rules)
+    (λ c. search (turns_all, rules)))

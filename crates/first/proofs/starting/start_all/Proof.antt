@@ -1,5 +1,5 @@
 -- `starting::start_all` meets its contract: a turn for each point. Assumes nothing.
-use Rattle.lowering.proofs.Common.{needs, ◌-◌, version1, version1_coherent, num, pos, lower_cell, start_all, lowering_by, span_cell, Turns, arith}
+use Rattle.lowering.proofs.Common.{rules, ◌-◌, version1, version1_coherent, num, pos, lower_cell, start_all, lowering_by, span_cell, Turns, arith}
 use Rattle.lowering.proofs.Common.{turns_none, turns_more, turns_all}
 use Rattle.lowering.proofs.Theory.SweepSteps.{start_lowers}
 use Rattle.first.proofs.starting.start_all.Statement.{statement}
@@ -22,5 +22,5 @@ start_all_spec =
     tie.close
     (tie.spec invariant_loop decreases_loop
     (λ c. turns_none c.requires.1)
-    (λ c κs. search needs) (λ c κs. search needs) (λ c. search needs) (λ c. search needs) loop_again (λ c. search needs)
-    (λ c. search (turns_all, needs)))
+    (λ c κs. search rules) (λ c κs. search rules) (λ c. search rules) (λ c. search rules) loop_again (λ c. search rules)
+    (λ c. search (turns_all, rules)))

@@ -1,6 +1,6 @@
 -- `joins::join_all` meets its contract: a turn for each middle. Assumes nothing.
 use Rattle.lowering.proofs.Common.{◌-◌, version1, version1_coherent, join_middle, join_all, Turns, turns_none, turns_more, turns_all, middle_lowers}
-use Rattle.lowering.proofs.Common.{needs}
+use Rattle.lowering.proofs.Common.{rules}
 use Rattle.joining.proofs.joins.join_all.Statement.{statement}
 use Rattle.joining.proofs.joins.join_all.Tie as tie
 
@@ -13,7 +13,7 @@ join_all_spec =
     tie.close
     (tie.spec invariant_loop (λ t₀ n y₀ t y. n - y)
     (λ c. turns_none c.requires.1)
-    (λ c κs. search needs) (λ c. search needs) (λ c. search needs)
-    (λ c. search (turns_more, middle_lowers version1 version1_coherent, needs))
-    (λ c. search needs)
-    (λ c. search (turns_all, needs)))
+    (λ c κs. search rules) (λ c. search rules) (λ c. search rules)
+    (λ c. search (turns_more, middle_lowers version1 version1_coherent, rules))
+    (λ c. search rules)
+    (λ c. search (turns_all, rules)))

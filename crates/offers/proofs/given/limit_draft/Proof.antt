@@ -1,5 +1,5 @@
 -- `given::limit_draft` meets its contract: a limit in range keeps its weight in a cell. Assumes nothing.
-use Rattle.offers.proofs.Common.{needs, limit_of, limit_weight, limit_made}
+use Rattle.offers.proofs.Common.{rules, limit_of, limit_weight, limit_made}
 use Rattle.offers.proofs.given.limit_draft.Statement.{statement}
 use Rattle.offers.proofs.given.limit_draft.Tie as tie
 
@@ -11,4 +11,4 @@ returns c =
     (limit_weight s.requires.1 s.args.i s.requires.0 l.ensures c.widened.result.v c.widened.ensures)
 
 pub limit_draft_spec : {M : Type 1} → statement M
-limit_draft_spec = tie.close (tie.spec (λ c κs. search needs) (λ c κs. search needs) returns)
+limit_draft_spec = tie.close (tie.spec (λ c κs. search rules) (λ c κs. search rules) returns)

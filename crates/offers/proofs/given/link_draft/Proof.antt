@@ -1,7 +1,7 @@
 -- `given::link_draft` meets its contract: each of a link's three lines, in their order. Assumes nothing.
 use lib.IntN.{neg_ℤ}
 use Rattle.rules.specs.Plan.{version1, LinkInRange}
-use Rattle.offers.proofs.Common.{needs, arith, ap, refl, ◌≡◌, ◌∙◌, link_of, SpansFit, link_read, spans_fit, span_number, negated_number, negation_fits, longest_made, shortest_made, lower_case_made}
+use Rattle.offers.proofs.Common.{rules, arith, ap, refl, ◌≡◌, ◌∙◌, link_of, SpansFit, link_read, spans_fit, span_number, negated_number, negation_fits, longest_made, shortest_made, lower_case_made}
 use Rattle.offers.proofs.given.link_draft.Statement.{statement}
 use Rattle.offers.proofs.given.link_draft.Tie as tie
 
@@ -43,7 +43,7 @@ returns_3 c =
 pub link_draft_spec : {M : Type 1} → statement M
 link_draft_spec =
     tie.close
-    (tie.spec (λ c κs. search needs)
+    (tie.spec (λ c κs. search rules)
     (λ c κs. (fit c.before).long) returns
     (λ c κs. (fit c.before.before).short)
     (λ c κs. negation_fits (fit c.before.before.before).short c.of2.ensures) returns_2

@@ -1,5 +1,5 @@
 -- `joins::join_draft` meets its contract: where the sum lowers the cell both bests are lines. Assumes nothing.
-use Rattle.offers.proofs.Common.{needs, part_small, near_read, join_made, sum_number}
+use Rattle.offers.proofs.Common.{rules, part_small, near_read, join_made, sum_number}
 use Rattle.offers.proofs.joins.join_draft.Statement.{statement}
 use Rattle.offers.proofs.joins.join_draft.Tie as tie
 
@@ -17,5 +17,5 @@ returns c =
 pub join_draft_spec : {M : Type 1} → statement M
 join_draft_spec =
     tie.close
-    (tie.spec (λ c κs. search (part_small, needs)) (λ c κs. search (part_small, needs)) (λ c κs. search (near_read, needs))
-    (λ c κs. search needs) (λ c κs. search needs) returns)
+    (tie.spec (λ c κs. search (part_small, rules)) (λ c κs. search (part_small, rules)) (λ c κs. search (near_read, rules))
+    (λ c κs. search rules) (λ c κs. search rules) returns)

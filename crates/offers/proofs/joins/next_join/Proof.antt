@@ -1,5 +1,5 @@
 -- `joins::next_join` meets its contract: no column passed has a join that lowers its cell. Assumes nothing.
-use Rattle.offers.proofs.Common.{needs, arith, ◌-◌, ◌≡◌, ◌∙◌, mark-read, part_small, near_read, lowers_read, Seen, seen_none, seen_more, seen_found, seen_all, seen_mark}
+use Rattle.offers.proofs.Common.{rules, arith, ◌-◌, ◌≡◌, ◌∙◌, mark-read, part_small, near_read, lowers_read, Seen, seen_none, seen_more, seen_found, seen_all, seen_mark}
 use Rattle.offers.specs.Drafts.{lowers_by}
 use Rattle.offers.proofs.joins.next_join.Statement.{statement}
 use Rattle.offers.proofs.joins.next_join.Tie as tie
@@ -24,10 +24,10 @@ pub next_join_spec : {M : Type 1} → statement M
 next_join_spec =
     tie.close
     (tie.spec invariant_loop decreases_loop
-    (λ c κs. search (part_small, needs)) (λ c κs. search needs) (λ c. search (seen_mark, mark-read, needs))
+    (λ c κs. search (part_small, rules)) (λ c κs. search rules) (λ c. search (seen_mark, mark-read, rules))
     (λ c. search seen_none)
-    (λ c κs. search (part_small, needs)) (λ c κs. search (near_read, needs)) (λ c κs. search (part_small, needs)) (λ c κs. search needs)
-    (λ c. seen_found c.before.before.before.before.before.before.loop.invariant (search needs) (tested c.before ∙ c.if2.true))
-    (λ c. search needs) (λ c. search needs)
-    (λ c. seen_more c.before.before.before.before.before.before.loop.invariant (search needs) (tested c.before ∙ c.if2.false))
-    (λ c. search (seen_all, needs)))
+    (λ c κs. search (part_small, rules)) (λ c κs. search (near_read, rules)) (λ c κs. search (part_small, rules)) (λ c κs. search rules)
+    (λ c. seen_found c.before.before.before.before.before.before.loop.invariant (search rules) (tested c.before ∙ c.if2.true))
+    (λ c. search rules) (λ c. search rules)
+    (λ c. seen_more c.before.before.before.before.before.before.loop.invariant (search rules) (tested c.before ∙ c.if2.false))
+    (λ c. search (seen_all, rules)))

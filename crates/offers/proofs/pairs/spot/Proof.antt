@@ -1,5 +1,5 @@
 -- `pairs::spot` meets its contract: the index lies within four tables of at most 64 x 64 cells. Assumes nothing.
-use Rattle.offers.proofs.Common.{needs, arith, inside, square_le, spot_below}
+use Rattle.offers.proofs.Common.{rules, arith, inside, square_le, spot_below}
 use Rattle.offers.proofs.pairs.spot.Statement.{statement}
 use Rattle.offers.proofs.pairs.spot.Tie as tie
 
@@ -12,4 +12,4 @@ spot_spec =
     (λ c. omega (arith, inside c.requires.0 c.requires.1, square_le c.requires.2))
     (λ c. omega (arith, spot_below c.requires.0 c.requires.1 c.requires.3, square_le c.requires.2))
     (λ c. omega (arith, spot_below c.requires.0 c.requires.1 c.requires.3, square_le c.requires.2))
-    (λ c. search needs))
+    (λ c. search rules))

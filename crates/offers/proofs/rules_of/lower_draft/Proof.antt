@@ -1,7 +1,7 @@
 -- `rules_of::lower_draft` meets its contract: nothing for a link's own contingent point or where Lower yields none, else its line. Assumes nothing.
 use Rattle.rules.specs.Plan.{version1, LinkInRange}
 use Rattle.rules.specs.Cells.{lowered}
-use Rattle.offers.proofs.Common.{needs, arith, refl, inl, ◌≡◌, ◌*◌, link_of, few, link_read, spans_fit, spread_is, known_room, near_read, mark-read, no_mark, cell64, adding, nothing_plain, lower_own, lower_none, lower_some}
+use Rattle.offers.proofs.Common.{rules, arith, refl, inl, ◌≡◌, ◌*◌, link_of, few, link_read, spans_fit, spread_is, known_room, near_read, mark-read, no_mark, cell64, adding, nothing_plain, lower_own, lower_none, lower_some}
 use Rattle.offers.proofs.rules_of.lower_draft.Statement.{statement}
 use Rattle.offers.proofs.rules_of.lower_draft.Tie as tie
 
@@ -55,7 +55,7 @@ returns_3 c =
 pub lower_draft_spec : {M : Type 1} → statement M
 lower_draft_spec =
     tie.close
-    (tie.spec (λ c κs. search needs) (λ c κs. search needs) (λ c κs. search needs) returns
+    (tie.spec (λ c κs. search rules) (λ c κs. search rules) (λ c κs. search rules) returns
     (λ c κs. let s = c.before.before.before.before.before.before.requires in ((first c.before.before.before).con, (second c.before.before.before).con, few s.3, omega arith, known_room s.4))
     (λ c. (second c.before.before.before.before.before).order)
     (λ c κs.
@@ -64,6 +64,6 @@ lower_draft_spec =
       (spans_fit (first l)).short,
       omega (arith, (spans_fit (second l)).long),
     ))
-    (λ c κs. search needs) (λ c κs. search needs) returns_2
-    (λ c. search needs) (λ c. search needs) (λ c. search needs)
+    (λ c κs. search rules) (λ c κs. search rules) returns_2
+    (λ c. search rules) (λ c. search rules) (λ c. search rules)
     (λ c κs. ((first c.before.before.before.before.before.before.before.before).con, (second c.before.before.before.before.before.before.before.before).con, few c.before.before.before.before.before.before.before.before.before.before.before.requires.3, inl refl, c.before.before.before.before.before.before.before.before.before.before.before.requires.4)) returns_3)

@@ -1,6 +1,6 @@
 -- `rules_of::upper_draft` meets its contract: nothing for a link's own contingent point or where there is no line to it, else its line. Assumes nothing.
 use Rattle.rules.specs.Plan.{version1, LinkInRange}
-use Rattle.offers.proofs.Common.{needs, arith, refl, inl, link_of, few, link_read, spans_fit, known_room, near_read, mark-read, no_mark, adding, nothing_plain, upper_own, upper_none, upper_some}
+use Rattle.offers.proofs.Common.{rules, arith, refl, inl, link_of, few, link_read, spans_fit, known_room, near_read, mark-read, no_mark, adding, nothing_plain, upper_own, upper_none, upper_some}
 use Rattle.offers.proofs.rules_of.upper_draft.Statement.{statement}
 use Rattle.offers.proofs.rules_of.upper_draft.Tie as tie
 
@@ -43,12 +43,12 @@ returns_3 c =
 pub upper_draft_spec : {M : Type 1} → statement M
 upper_draft_spec =
     tie.close
-    (tie.spec (λ c κs. search needs) (λ c κs. search needs) returns
+    (tie.spec (λ c κs. search rules) (λ c κs. search rules) returns
     (λ c κs. let s = c.before.before.before.before in (s.requires.0, (range c.before.before).con, few s.requires.3, omega arith, known_room s.requires.4))
     (λ c κs.
     let s = c.before.before.before.before.before in
     let l = range c.before.before.before in
     (near_read s.requires.4 (inl refl) s.requires.0 l.con c.weight-at.ensures, (spans_fit l).short, (spans_fit l).long))
-    (λ c κs. search needs) (λ c κs. search needs) returns_2
+    (λ c κs. search rules) (λ c κs. search rules) returns_2
     (λ c κs. let s = c.before.before.before.before.before.before.before.before in (s.requires.0, (range c.before.before.before.before.before.before).con, few s.requires.3, inl refl, s.requires.4))
-    (λ c. search needs) (λ c. search needs) returns_3)
+    (λ c. search rules) (λ c. search rules) returns_3)

@@ -1,6 +1,6 @@
 -- `faults::limit_answer` meets its contract: the fields are looked at in their order, and a weight is read back from its bits. The returns name their
 -- law and its numbers, so that a wrong place is refused there. Assumes nothing.
-use Rattle.plan.proofs.Common.{◌≡◌, needs, sfits_of, w32, to_z-of_z, version1}
+use Rattle.plan.proofs.Common.{◌≡◌, rules, sfits_of, w32, to_z-of_z, version1}
 use Rattle.plan.specs.Values.{limit_of}
 use Rattle.plan.specs.File.{weight_fits}
 use Rattle.plan.proofs.FirstFault.{from_fault, to_fault, weight_fault, limit_right}
@@ -34,5 +34,5 @@ pub limit_answer_spec : {M : Type 1} → statement M
 unfolding version1
 limit_answer_spec =
     tie.close
-    (tie.spec (λ c. search needs) (λ c. search needs) (λ c κs. search needs) returns (λ c. search needs) returns_2 (λ c. search needs) returns_3
+    (tie.spec (λ c. search rules) (λ c. search rules) (λ c κs. search rules) returns (λ c. search rules) returns_2 (λ c. search rules) returns_3
     (λ c. search (limit_right, weighed c.before.before.before)))

@@ -1,6 +1,6 @@
 -- `faults::link_answer` meets its contract: the fields are looked at in their order, and then whether the contingent point is new. The returns name
 -- their law and its numbers, so that a wrong place or test is refused there. Assumes nothing.
-use Rattle.plan.proofs.Common.{needs, version1}
+use Rattle.plan.proofs.Common.{rules, version1}
 use Rattle.plan.specs.Values.{link_of}
 use Rattle.plan.proofs.FirstFault.{act_fault, con_fault, short_fault, long_fault, con_again, link_right}
 use Rattle.plan.proofs.faults.link_answer.Statement.{statement}
@@ -47,6 +47,6 @@ pub link_answer_spec : {M : Type 1} → statement M
 unfolding version1
 link_answer_spec =
     tie.close
-    (tie.spec (λ c. search needs) (λ c. search needs) (λ c. search needs) (λ c. search needs) returns
-    (λ c. search needs) returns_2 (λ c. search needs) returns_3 (λ c. search needs) returns_4 (λ c. search needs) returns_5
+    (tie.spec (λ c. search rules) (λ c. search rules) (λ c. search rules) (λ c. search rules) returns
+    (λ c. search rules) returns_2 (λ c. search rules) returns_3 (λ c. search rules) returns_4 (λ c. search rules) returns_5
     (λ c. search link_right))

@@ -1,5 +1,5 @@
 -- `faces::post_add` meets its contract: the number of Add's answer, and what Add left. Assumes nothing.
-use Rattle.lowering.proofs.Common.{needs, back}
+use Rattle.lowering.proofs.Common.{rules, back}
 use Rattle.post.proofs.faces.post_add.Statement.{statement}
 use Rattle.post.proofs.faces.post_add.Tie as tie
 
@@ -16,5 +16,5 @@ returns c =
 pub post_add_spec : {M : Type 1} → statement M
 post_add_spec =
     tie.close
-    (tie.spec (λ c κs. search needs) (λ c κs. search needs) (λ c. search needs) (λ c. search needs) (λ c. search needs)
+    (tie.spec (λ c κs. search rules) (λ c κs. search rules) (λ c. search rules) (λ c. search rules) (λ c. search rules)
     returns)

@@ -1,5 +1,5 @@
 -- `judging::judge` meets its contract. Assumes nothing.
-use Rattle.lowering.proofs.Common.{needs}
+use Rattle.lowering.proofs.Common.{rules}
 use Rattle.plan.proofs.SoundFile.{is_accepted, not_accepted}
 use Rattle.adding.proofs.AddAnswers.{ready_of}
 use Rattle.post.proofs.JudgeAnswers.{lent_judged, lent_enough, strict_enough, open_enough}
@@ -14,7 +14,7 @@ judge_sound_requires c κs =
 pub judge_spec : {M : Type 1} → statement M
 judge_spec =
     tie.close
-    (tie.spec (λ c κs. search needs) (λ c κs. search needs)
+    (tie.spec (λ c κs. search rules) (λ c κs. search rules)
     (λ c. search (lent_judged, not_accepted))
-    (λ c κs. search needs) (λ c. search needs) judge_sound_requires (λ c. search needs) (λ c. search needs)
-    (λ c. search needs))
+    (λ c κs. search rules) (λ c. search rules) judge_sound_requires (λ c. search rules) (λ c. search rules)
+    (λ c. search rules))

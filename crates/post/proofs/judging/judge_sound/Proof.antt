@@ -1,5 +1,5 @@
 -- `judging::judge_sound` meets its contract: the sweeps settle, or both tables are marked. Assumes nothing.
-use Rattle.lowering.proofs.Common.{needs}
+use Rattle.lowering.proofs.Common.{rules}
 use Rattle.post.proofs.JudgeAnswers.{judged_written, judged_refused}
 use Rattle.post.proofs.judging.judge_sound.Statement.{statement}
 use Rattle.post.proofs.judging.judge_sound.Tie as tie
@@ -19,5 +19,5 @@ returns_2 c =
 pub judge_sound_spec : {M : Type 1} → statement M
 judge_sound_spec =
     tie.close
-    (tie.spec (λ c κs. search needs) (λ c. search needs) (λ c. search needs) returns (λ c. search needs)
-    (λ c κs. search needs) (λ c. search needs) (λ c κs. search needs) (λ c. search needs) (λ c. search needs) returns_2)
+    (tie.spec (λ c κs. search rules) (λ c. search rules) (λ c. search rules) returns (λ c. search rules)
+    (λ c κs. search rules) (λ c. search rules) (λ c κs. search rules) (λ c. search rules) (λ c. search rules) returns_2)

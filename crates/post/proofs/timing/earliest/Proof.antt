@@ -1,5 +1,5 @@
 -- `timing::earliest` meets its contract: what comes before the work, room for the times, no links, and the work. Assumes nothing.
-use Rattle.lowering.proofs.Common.{needs, length}
+use Rattle.lowering.proofs.Common.{rules, length}
 use Rattle.plan.proofs.SoundFile.{is_accepted, not_accepted}
 use Rattle.post.proofs.JudgeAnswers.{Enough, lent_enough, strict_enough, open_enough}
 use Rattle.post.proofs.EarliestAnswers.{lent_timed, times_short, times_links, ready_no_links}
@@ -23,8 +23,8 @@ timed_requires c κs =
 pub earliest_spec : {M : Type 1} → statement M
 earliest_spec =
     tie.close
-    (tie.spec (λ c κs. search needs) (λ c κs. search needs)
+    (tie.spec (λ c κs. search rules) (λ c κs. search rules)
     (λ c. search (lent_timed, not_accepted))
-    (λ c κs. search needs) (λ c. search needs)
+    (λ c κs. search rules) (λ c. search rules)
     (λ c. search (times_short, enough c.before.before))
-    returns_3 timed_requires (λ c. search needs) (λ c. search needs) (λ c. search needs) (λ c. search needs))
+    returns_3 timed_requires (λ c. search rules) (λ c. search rules) (λ c. search rules) (λ c. search rules))

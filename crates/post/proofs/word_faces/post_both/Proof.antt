@@ -1,5 +1,5 @@
 -- `word_faces::post_both` meets its contract: the number of what `both_into` answers, and what it left. Assumes nothing.
-use Rattle.lowering.proofs.Common.{needs}
+use Rattle.lowering.proofs.Common.{rules}
 use Rattle.post.proofs.word_faces.post_both.Statement.{statement}
 use Rattle.post.proofs.word_faces.post_both.Tie as tie
 
@@ -9,4 +9,4 @@ returns c =
     record { answer = call.result; meets = call.ensures; is = c.packed.ensures }
 
 pub post_both_spec : {M : Type 1} → statement M
-post_both_spec = tie.close (tie.spec (λ c κs. search needs) (λ c κs. search needs) (λ c. search needs) returns)
+post_both_spec = tie.close (tie.spec (λ c κs. search rules) (λ c κs. search rules) (λ c. search rules) returns)

@@ -33,14 +33,14 @@ returns : tie.Need-returns
 returns c =
     let s = c.before.before.before.before.before.before.before.before.before.before.before.before.before.before.before.before.before.before.before.before.before.before.before.before.before.before.before.before.before.before.before in
     let r = c.before.before.before.before.before.before.before.before.before.before.before.before.before.before.before.before.before.run.ensures in
-    answer_done s.requires.0 s.requires.1 r.0 r.2 (not-true _ c.before.before.before.if1.true) c.before.clear.ensures
+    answer_done s.requires.0 s.requires.1 r.0 r.2 (c.before.before.before.if1.true) c.before.clear.ensures
 
 returns_2 : tie.Need-returns-2
 returns_2 c =
     let s = c.before.before.before.before.before.before.before.before.before.before.before.before.before.before.before.before.before.before.before.before.before.before.before.before.before.before.before.before.before.before.before.before.before.before in
     let r = c.before.before.before.before.before.before.before.before.before.before.before.before.before.before.before.before.before.before.before.before.run.ensures in
     let room = (room_is c.before.before.before.before.before).1 in
-    answer_long s.requires.0 s.requires.1 r.0 r.2 (not-false _ c.before.before.before.before.before.before.if1.false) (omega (arith, room, c.before.before.before.if2.true)) c.before.clear2.ensures
+    answer_long s.requires.0 s.requires.1 r.0 r.2 (c.before.before.before.before.before.before.if1.false) (omega (arith, room, c.before.before.before.if2.true)) c.before.clear2.ensures
 
 returns_3 : tie.Need-returns-3
 returns_3 c =
@@ -48,7 +48,7 @@ returns_3 c =
     let r = c.before.before.before.before.before.before.before.before.before.before.before.before.before.before.before.before.before.before.before.before.before.before.before.before.before.before.before.before.before.before.before.before.before.before.before.before.before.before.before.before.before.run.ensures in
     let v = c.before.before.before.before.before.before.before.before.before.before.before.before.before.before.before.before.run2.ensures in
     let room = (room_is c.before.before.before.before.before.before.before.before.before.before.before.before.before.before.before.before.before.before.before.before.before.before.before.before.before.before).1 in
-    answer_listed s.requires.0 s.requires.1 r.0 r.2 (not-false _ c.before.before.before.before.before.before.before.before.before.before.before.before.before.before.before.before.before.before.before.before.before.before.before.before.before.before.before.if1.false) (omega (arith, room, c.before.before.before.before.before.before.before.before.before.before.before.before.before.before.before.before.before.before.before.before.before.before.before.before.if2.false)) v.0
+    answer_listed s.requires.0 s.requires.1 r.0 r.2 (c.before.before.before.before.before.before.before.before.before.before.before.before.before.before.before.before.before.before.before.before.before.before.before.before.before.before.before.if1.false) (omega (arith, room, c.before.before.before.before.before.before.before.before.before.before.before.before.before.before.before.before.before.before.before.before.before.before.before.before.if2.false)) v.0
     (rw room at v.2) c.before.before.clear3.ensures
 
 pub listed_spec : {M : Type 1} → statement M

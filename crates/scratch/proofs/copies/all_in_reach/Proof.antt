@@ -1,5 +1,5 @@
 -- `copies::all_in_reach` meets its contract: every cell passed is in reach, and one that is not is shown. Assumes nothing.
-use Rattle.lowering.proofs.Common.{needs, ◌-◌, arith, not-true, version1, adding, CellWithin, Passed, none_yet, passed_all, within_more}
+use Rattle.lowering.proofs.Common.{rules, ◌-◌, arith, not-true, version1, adding, CellWithin, Passed, none_yet, passed_all, within_more}
 use Rattle.lowering.proofs.Common.{looked_yes, looked_no}
 use Rattle.scratch.proofs.copies.all_in_reach.Statement.{statement}
 use Rattle.scratch.proofs.copies.all_in_reach.Tie as tie
@@ -21,6 +21,6 @@ pub all_in_reach_spec : {M : Type 1} → statement M
 all_in_reach_spec =
     tie.close
     (tie.spec invariant_loop decreases_loop
-    (λ c. none_yet) (λ c κs. search needs) (λ c κs. search needs) returns (λ c. search needs) (λ c. search needs)
-    (λ c. search (within_more, needs))
+    (λ c. none_yet) (λ c κs. search rules) (λ c κs. search rules) returns (λ c. search rules) (λ c. search rules)
+    (λ c. search (within_more, rules))
     (λ c. looked_yes (passed_all c.before.loop.invariant (omega arith))))

@@ -1,5 +1,5 @@
 -- `copies::clear` meets its contract: each cell passed is 0. Assumes nothing.
-use Rattle.lowering.proofs.Common.{needs, arith, ◌-◌, ◌≡◌, refl, pos, Writing, writing_none, writing_more, writing_all}
+use Rattle.lowering.proofs.Common.{rules, arith, ◌-◌, ◌≡◌, refl, pos, Writing, writing_none, writing_more, writing_all}
 use Rattle.scratch.proofs.copies.clear.Statement.{statement}
 use Rattle.scratch.proofs.copies.clear.Tie as tie
 
@@ -10,7 +10,7 @@ pub clear_spec : {M : Type 1} → statement M
 clear_spec =
     tie.close
     (tie.spec invariant_loop (λ t₀ count i₀ t i. count - i)
-    (λ c. writing_none) (λ c. search needs) (λ c. search needs) (λ c. search needs) (λ c. search needs)
+    (λ c. writing_none) (λ c. search rules) (λ c. search rules) (λ c. search rules) (λ c. search rules)
     (λ c. writing_more c.before.loop.invariant (pos 0) (omega arith) c.before.before.requires refl refl)
-    (λ c. search needs)
+    (λ c. search rules)
     (λ c. search (writing_all c.before.loop.invariant (omega arith))))

@@ -1,5 +1,5 @@
 -- `copies::narrow` meets its contract: each cell passed is the one of the scratch. Assumes nothing.
-use Rattle.lowering.proofs.Common.{needs, arith, ◌-◌, ◌≡◌, sym, get_or, pos, cell32, cell64, Writing, writing_none, writing_more, writing_all}
+use Rattle.lowering.proofs.Common.{rules, arith, ◌-◌, ◌≡◌, sym, get_or, pos, cell32, cell64, Writing, writing_none, writing_more, writing_all}
 use Rattle.scratch.proofs.copies.narrow.Statement.{statement}
 use Rattle.scratch.proofs.copies.narrow.Tie as tie
 
@@ -10,9 +10,9 @@ pub narrow_spec : {M : Type 1} → statement M
 narrow_spec =
     tie.close
     (tie.spec invariant_loop (λ t table₀ count i₀ table i. count - i)
-    (λ c. writing_none) (λ c κs. search needs)
-    (λ c κs. search (c.Cell-at.ensures, c.before.before.before.before.requires.2, needs))
-    (λ c κs. search needs) (λ c. search needs) (λ c. search needs)
-    (λ c. search (writing_more, sym c.before.before.narrowed.ensures, ← c.before.before.before.Cell-at.ensures, needs))
-    (λ c. search needs)
+    (λ c. writing_none) (λ c κs. search rules)
+    (λ c κs. search (c.Cell-at.ensures, c.before.before.before.before.requires.2, rules))
+    (λ c κs. search rules) (λ c. search rules) (λ c. search rules)
+    (λ c. search (writing_more, sym c.before.before.narrowed.ensures, ← c.before.before.before.Cell-at.ensures, rules))
+    (λ c. search rules)
     (λ c. search (writing_all c.before.loop.invariant (omega arith))))

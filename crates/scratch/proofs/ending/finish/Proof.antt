@@ -1,5 +1,5 @@
 -- `ending::finish` meets its contract: one table, then the other, then the scratch. Assumes nothing.
-use Rattle.lowering.proofs.Common.{arith, needs}
+use Rattle.lowering.proofs.Common.{arith, rules}
 use Rattle.scratch.proofs.ending.finish.Statement.{statement}
 use Rattle.scratch.proofs.ending.finish.Tie as tie
 
@@ -11,5 +11,5 @@ narrow_requires c κs =
 pub finish_spec : {M : Type 1} → statement M
 finish_spec =
     tie.close
-    (tie.spec (λ c. search needs) narrow_requires (λ c κs. search needs) (λ c. search needs) (λ c κs. search needs)
-    (λ c. search needs) (λ c. search needs) (λ c. search needs) (λ c. search needs))
+    (tie.spec (λ c. search rules) narrow_requires (λ c κs. search rules) (λ c. search rules) (λ c κs. search rules)
+    (λ c. search rules) (λ c. search rules) (λ c. search rules) (λ c. search rules))

@@ -1,5 +1,5 @@
 -- `ending::narrow_open` meets its contract: the open table's part is lent. Assumes nothing.
-use Rattle.lowering.proofs.Common.{◌*◌, arith, needs}
+use Rattle.lowering.proofs.Common.{◌*◌, arith, rules}
 use lib.ListN.{length-drop}
 use Rattle.scratch.proofs.ScratchParts.{rest}
 use Rattle.scratch.proofs.AddBegins.{part_reach}
@@ -15,6 +15,6 @@ narrow_requires c κs =
 pub narrow_open_spec : {M : Type 1} → statement M
 narrow_open_spec =
     tie.close
-    (tie.spec (λ c. search needs) (λ c. search needs) (λ c. search needs) (λ c. search needs) (λ c. search needs)
-    narrow_requires (λ c. search needs)
+    (tie.spec (λ c. search rules) (λ c. search rules) (λ c. search rules) (λ c. search rules) (λ c. search rules)
+    narrow_requires (λ c. search rules)
     (λ c. rw rest at c.before.narrow.ensures))

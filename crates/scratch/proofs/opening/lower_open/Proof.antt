@@ -1,5 +1,5 @@
 -- `opening::lower_open` meets its contract: the open table's part is lent. Assumes nothing.
-use Rattle.lowering.proofs.Common.{◌*◌, arith, needs}
+use Rattle.lowering.proofs.Common.{◌*◌, arith, rules}
 use Rattle.scratch.proofs.ScratchParts.{rest, rest_back}
 use Rattle.scratch.proofs.opening.lower_open.Statement.{statement}
 use Rattle.scratch.proofs.opening.lower_open.Tie as tie
@@ -13,5 +13,5 @@ returns c =
 pub lower_open_spec : {M : Type 1} → statement M
 lower_open_spec =
     tie.close
-    (tie.spec (λ c. search needs) (λ c. search needs) (λ c. search needs) (λ c. search needs) (λ c. search needs)
-    (λ c κs. search needs) (λ c. search needs) returns)
+    (tie.spec (λ c. search rules) (λ c. search rules) (λ c. search rules) (λ c. search rules) (λ c. search rules)
+    (λ c κs. search rules) (λ c. search rules) returns)

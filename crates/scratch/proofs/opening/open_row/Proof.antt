@@ -1,5 +1,5 @@
 -- `opening::open_row` meets its contract: a turn for each cell of the row. Assumes nothing.
-use Rattle.lowering.proofs.Common.{needs, ◌-◌, adding, open_row}
+use Rattle.lowering.proofs.Common.{rules, ◌-◌, adding, open_row}
 use Rattle.lowering.specs.Sweep.{open_cell}
 use Rattle.lowering.proofs.Theory.SweepSteps.{open_cell_lowers}
 use Rattle.lowering.proofs.Laws.FirstAsRead.{open_cell_is}
@@ -18,9 +18,9 @@ open_row_spec =
     tie.close
     (tie.spec invariant_loop (λ t₀ n x y₀ t y. n - y)
     (λ c. opening_none c.requires.2)
-    (λ c κs. search (half_room, opening_both, needs))
-    (λ c κs. search (opening_both, needs))
-    (λ c. search needs) (λ c. search needs)
-    (λ c. search (opening_more, open_cell_lowers adding adding_coherent, open_cell_is, part_read, needs))
-    (λ c. search needs)
-    (λ c. search (opening_all, needs)))
+    (λ c κs. search (half_room, opening_both, rules))
+    (λ c κs. search (opening_both, rules))
+    (λ c. search rules) (λ c. search rules)
+    (λ c. search (opening_more, open_cell_lowers adding adding_coherent, open_cell_is, part_read, rules))
+    (λ c. search rules)
+    (λ c. search (opening_all, rules)))

@@ -1,5 +1,5 @@
 -- `opening::open_under` meets its contract: a turn for each row. Assumes nothing.
-use Rattle.lowering.proofs.Common.{needs, ◌-◌, adding, open_row}
+use Rattle.lowering.proofs.Common.{rules, ◌-◌, adding, open_row}
 use Rattle.lowering.specs.Sweep.{open_all}
 use Rattle.lowering.proofs.Theory.SweepSteps.{open_row_lowers}
 use Rattle.wide.proofs.AddStart.{adding_coherent}
@@ -16,7 +16,7 @@ decreases_loop t₀ n x₀ t x = n - x
 
 loop_again : tie.Need-loop-preserved invariant_loop decreases_loop
 loop_again c =
-    search (opening_more, open_row_lowers adding adding_coherent, ← c.before.before.before.before.loop.invariant.strict_same, needs)
+    search (opening_more, open_row_lowers adding adding_coherent, ← c.before.before.before.before.loop.invariant.strict_same, rules)
 
 pub open_under_spec : {M : Type 1} → statement M
 unfolding open_all
@@ -24,6 +24,6 @@ open_under_spec =
     tie.close
     (tie.spec invariant_loop decreases_loop
     (λ c. opening_none c.requires.1)
-    (λ c κs. search (opening_both, needs))
-    (λ c. search needs) (λ c. search needs) loop_again (λ c. search needs)
-    (λ c. search (opening_all, needs)))
+    (λ c κs. search (opening_both, rules))
+    (λ c. search rules) (λ c. search rules) loop_again (λ c. search rules)
+    (λ c. search (opening_all, rules)))

@@ -1,5 +1,5 @@
 -- `settling::both_heights` meets its contract: two tables of at most 4,096 cells each stand far below the largest u64. Assumes nothing.
-use Rattle.lowering.proofs.Common.{◌*◌, arith, square_le, adding, sound_held, heights_most, needs}
+use Rattle.lowering.proofs.Common.{◌*◌, arith, square_le, adding, sound_held, heights_most, rules}
 use Rattle.scratch.specs.Swept.{strict_part, open_part}
 use Rattle.scratch.proofs.ScratchParts.{half_room, front_length, rest}
 use Rattle.scratch.proofs.settling.both_heights.Statement.{statement}
@@ -21,10 +21,10 @@ add_result c =
 pub both_heights_spec : {M : Type 1} → statement M
 both_heights_spec =
     tie.close
-    (tie.spec (λ c. search needs)
+    (tie.spec (λ c. search rules)
     (λ c. search (front_length, half_room))
     (λ c κs. search (arith, square_le, sound_held))
-    (λ c. search needs) (λ c. search needs) (λ c. search needs) (λ c. search needs)
+    (λ c. search rules) (λ c. search rules) (λ c. search rules) (λ c. search rules)
     (λ c κs. search (arith, square_le, sound_held, rest))
     add_result
     (λ c. omega (arith, rw rest at c.height-all2.ensures)))

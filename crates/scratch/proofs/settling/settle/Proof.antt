@@ -16,7 +16,7 @@ returns_2 c =
     let sweep = look.before.before.before in
     let turn = sweep.before.before in
     ended_yes (search) _ turn.loop.invariant (search) sweep.sweep.ensures (search) c.if2.true
-    (look.both-fair.ensures.holds (not-false _ c.before.before.before.if1.false))
+    (look.both-fair.ensures.holds (c.before.before.before.if1.false))
 
 loop_less : tie.Need-loop-smaller invariant_loop decreases_loop
 loop_less c =

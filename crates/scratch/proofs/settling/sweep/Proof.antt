@@ -1,5 +1,5 @@
 -- `settling::sweep` meets its contract: the strict table, then the open one under it, then its own part. Assumes nothing.
-use Rattle.lowering.proofs.Common.{few, needs}
+use Rattle.lowering.proofs.Common.{few, rules}
 use Rattle.scratch.proofs.AddSweeps.{both_first, both_under, open_swept}
 use Rattle.scratch.proofs.settling.sweep.Statement.{statement}
 use Rattle.scratch.proofs.settling.sweep.Tie as tie
@@ -13,7 +13,7 @@ sweep_last_requires c κs =
 pub sweep_spec : {M : Type 1} → statement M
 sweep_spec =
     tie.close
-    (tie.spec (λ c κs. search needs)
+    (tie.spec (λ c κs. search rules)
     (λ c κs. search (few, both_first))
-    sweep_last_requires (λ c. search needs)
+    sweep_last_requires (λ c. search rules)
     (λ c. (cc, search open_swept)))

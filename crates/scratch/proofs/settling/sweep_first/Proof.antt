@@ -1,5 +1,5 @@
 -- `settling::sweep_first` meets its contract: the strict table's part is lent. Assumes nothing.
-use Rattle.lowering.proofs.Common.{◌*◌, needs}
+use Rattle.lowering.proofs.Common.{◌*◌, rules}
 use Rattle.scratch.proofs.ScratchParts.{half_room, front_length, front_back}
 use Rattle.scratch.proofs.settling.sweep_first.Statement.{statement}
 use Rattle.scratch.proofs.settling.sweep_first.Tie as tie
@@ -13,6 +13,6 @@ returns c =
 pub sweep_first_spec : {M : Type 1} → statement M
 sweep_first_spec =
     tie.close
-    (tie.spec (λ c. search needs) (λ c. search needs)
-    (λ c. search (front_length, half_room, needs))
-    (λ c κs. search needs) (λ c. search needs) returns)
+    (tie.spec (λ c. search rules) (λ c. search rules)
+    (λ c. search (front_length, half_room, rules))
+    (λ c κs. search rules) (λ c. search rules) returns)

@@ -1,5 +1,5 @@
 -- `settling::sweep_last` meets its contract: the open table's part is lent. Assumes nothing.
-use Rattle.lowering.proofs.Common.{◌*◌, needs}
+use Rattle.lowering.proofs.Common.{◌*◌, rules}
 use Rattle.scratch.proofs.ScratchParts.{half_room, rest, rest_back}
 use Rattle.scratch.proofs.settling.sweep_last.Statement.{statement}
 use Rattle.scratch.proofs.settling.sweep_last.Tie as tie
@@ -18,5 +18,5 @@ returns c =
 pub sweep_last_spec : {M : Type 1} → statement M
 sweep_last_spec =
     tie.close
-    (tie.spec (λ c. search needs) (λ c. search needs) (λ c. search needs) (λ c. search needs) (λ c. search needs)
-    join_cases_requires (λ c. search needs) returns)
+    (tie.spec (λ c. search rules) (λ c. search rules) (λ c. search rules) (λ c. search rules) (λ c. search rules)
+    join_cases_requires (λ c. search rules) returns)

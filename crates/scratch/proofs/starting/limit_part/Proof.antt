@@ -1,5 +1,5 @@
 -- `starting::limit_part` meets its contract: the strict table's part is lent. Assumes nothing.
-use Rattle.lowering.proofs.Common.{◌*◌, arith, needs}
+use Rattle.lowering.proofs.Common.{◌*◌, arith, rules}
 use Rattle.scratch.proofs.ScratchParts.{front_length, front_back}
 use Rattle.scratch.proofs.starting.limit_part.Statement.{statement}
 use Rattle.scratch.proofs.starting.limit_part.Tie as tie
@@ -13,6 +13,6 @@ returns c =
 pub limit_part_spec : {M : Type 1} → statement M
 limit_part_spec =
     tie.close
-    (tie.spec (λ c. search needs) (λ c. search needs)
+    (tie.spec (λ c. search rules) (λ c. search rules)
     (λ c. front_length (c.before.args.n * c.before.args.n) c.before.args.t.now (omega (arith, c.before.requires.2)))
-    (λ c κs. search needs) (λ c. search needs) returns)
+    (λ c κs. search rules) (λ c. search rules) returns)

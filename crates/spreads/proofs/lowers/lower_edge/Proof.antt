@@ -1,5 +1,5 @@
 -- `lowers::lower_edge` meets its contract: nothing for a link's own contingent point, else an edge of what Lower yields. Assumes nothing.
-use Rattle.lowering.proofs.Common.{needs, refl, version1, link_of, spread_is, read_stored}
+use Rattle.lowering.proofs.Common.{rules, refl, version1, link_of, spread_is, read_stored}
 use Rattle.lowering.proofs.Laws.LinksAsRead.{lower_edge_own, lower_edge_is}
 use Rattle.spreads.proofs.lowers.lower_edge.Statement.{statement}
 use Rattle.spreads.proofs.lowers.lower_edge.Tie as tie
@@ -19,7 +19,7 @@ returns_2 c =
 pub lower_edge_spec : {M : Type 1} → statement M
 lower_edge_spec =
     tie.close
-    (tie.spec returns (λ c. search needs) (λ c. search needs) (λ c. search needs) (λ c κs. search needs)
-    (λ c. search needs)
-    (λ c κs. search (read_stored, needs))
-    (λ c κs. search needs) (λ c. search needs) returns_2)
+    (tie.spec returns (λ c. search rules) (λ c. search rules) (λ c. search rules) (λ c κs. search rules)
+    (λ c. search rules)
+    (λ c κs. search (read_stored, rules))
+    (λ c κs. search rules) (λ c. search rules) returns_2)

@@ -1,5 +1,5 @@
 -- `lowers::lower_round` meets its contract: a turn for each link. Assumes nothing.
-use Rattle.lowering.proofs.Common.{needs, ◌-◌, version1_coherent, version1, link_at, lower_edges, Turns, turns_none, turns_more, turns_all, link_points}
+use Rattle.lowering.proofs.Common.{rules, ◌-◌, version1_coherent, version1, link_at, lower_edges, Turns, turns_none, turns_more, turns_all, link_points}
 use Rattle.lowering.specs.Spread.{lower_round}
 use Rattle.lowering.proofs.Theory.SpreadSteps.{lower_edges_lowers}
 use Rattle.spreads.proofs.lowers.lower_round.Statement.{statement}
@@ -14,7 +14,7 @@ decreases_loop file n m k t₀ i₀ t i = k - i
 loop_again : tie.Need-loop-preserved invariant_loop decreases_loop
 loop_again c =
     let lowers = lower_edges_lowers version1 version1_coherent _ _ _ (link_points c.before.before.before.before.before.before.requires.0) in
-    search (turns_more, lowers, needs)
+    search (turns_more, lowers, rules)
 
 pub lower_round_spec : {M : Type 1} → statement M
 unfolding lower_round
@@ -22,5 +22,5 @@ lower_round_spec =
     tie.close
     (tie.spec invariant_loop decreases_loop
     (λ c. turns_none c.before.requires.1)
-    (λ c κs. search needs) (λ c. search needs) (λ c. search needs) loop_again (λ c. search needs)
-    (λ c. search (turns_all, needs)))
+    (λ c κs. search rules) (λ c. search rules) (λ c. search rules) loop_again (λ c. search rules)
+    (λ c. search (turns_all, rules)))

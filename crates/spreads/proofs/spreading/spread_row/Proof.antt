@@ -1,5 +1,5 @@
 -- `spreading::spread_row` meets its contract: a row that the edge shortens is taken by the way over it, and any other stays. Assumes nothing.
-use Rattle.lowering.proofs.Common.{needs, read_stored, version1}
+use Rattle.lowering.proofs.Common.{rules, read_stored, version1}
 use Rattle.lowering.proofs.Laws.SpreadAsRead.{way_summed, spread_row_is, spread_row_stays}
 use Rattle.spreads.proofs.spreading.spread_row.Statement.{statement}
 use Rattle.spreads.proofs.spreading.spread_row.Tie as tie
@@ -23,8 +23,8 @@ returns_2 c =
 pub spread_row_spec : {M : Type 1} → statement M
 spread_row_spec =
     tie.close
-    (tie.spec (λ c κs. search needs)
-    (λ c κs. search (read_stored, needs))
-    (λ c κs. search needs) (λ c κs. search needs)
-    (λ c κs. search (way_summed, read_stored, needs))
-    (λ c. search needs) returns (λ c. search needs) returns_2)
+    (tie.spec (λ c κs. search rules)
+    (λ c κs. search (read_stored, rules))
+    (λ c κs. search rules) (λ c κs. search rules)
+    (λ c κs. search (way_summed, read_stored, rules))
+    (λ c. search rules) returns (λ c. search rules) returns_2)

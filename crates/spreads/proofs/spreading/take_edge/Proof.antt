@@ -1,5 +1,5 @@
 -- `spreading::take_edge` meets its contract: an edge that closes a walk below 0 is written to the diagonal, and any other is spread. Assumes nothing.
-use Rattle.lowering.proofs.Common.{needs, read_stored, span_cell, version1, arith}
+use Rattle.lowering.proofs.Common.{rules, read_stored, span_cell, version1, arith}
 use Rattle.lowering.proofs.Laws.SpreadAsRead.{take_edge_closes, take_edge_spreads}
 use Rattle.spreads.proofs.spreading.take_edge.Statement.{statement}
 use Rattle.spreads.proofs.spreading.take_edge.Tie as tie
@@ -15,8 +15,8 @@ returns c =
 pub take_edge_spec : {M : Type 1} → statement M
 take_edge_spec =
     tie.close
-    (tie.spec (λ c κs. search needs)
-    (λ c κs. search (read_stored, needs))
-    (λ c κs. search needs) (λ c κs. search needs) (λ c κs. search needs) (λ c. search needs) returns
-    (λ c κs. search needs) (λ c. search needs)
-    (λ c. search (take_edge_spreads, span_cell, needs)))
+    (tie.spec (λ c κs. search rules)
+    (λ c κs. search (read_stored, rules))
+    (λ c κs. search rules) (λ c κs. search rules) (λ c κs. search rules) (λ c. search rules) returns
+    (λ c κs. search rules) (λ c. search rules)
+    (λ c. search (take_edge_spreads, span_cell, rules)))

@@ -1,5 +1,5 @@
 -- `uppers::upper_edge` meets its contract: an edge of what Upper yields. Assumes nothing.
-use Rattle.lowering.proofs.Common.{needs, refl, link_of, read_stored, version1}
+use Rattle.lowering.proofs.Common.{rules, refl, link_of, read_stored, version1}
 use Rattle.lowering.proofs.Laws.LinksAsRead.{upper_edge_is}
 use Rattle.spreads.proofs.uppers.upper_edge.Statement.{statement}
 use Rattle.spreads.proofs.uppers.upper_edge.Tie as tie
@@ -14,6 +14,6 @@ returns c =
 pub upper_edge_spec : {M : Type 1} → statement M
 upper_edge_spec =
     tie.close
-    (tie.spec (λ c. search needs) (λ c. search needs) (λ c κs. search needs)
-    (λ c κs. search (read_stored, needs))
-    (λ c κs. search needs) (λ c. search needs) returns)
+    (tie.spec (λ c. search rules) (λ c. search rules) (λ c κs. search rules)
+    (λ c κs. search (read_stored, rules))
+    (λ c κs. search rules) (λ c. search rules) returns)

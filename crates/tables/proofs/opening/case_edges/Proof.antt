@@ -1,5 +1,5 @@
 -- `opening::case_edges` meets its contract: a turn for each link. Assumes nothing.
-use Rattle.lowering.proofs.Common.{needs, ◌-◌, version1_coherent, version1, link_at, case_edge, Turns, turns_none, turns_more, turns_all, few}
+use Rattle.lowering.proofs.Common.{rules, ◌-◌, version1_coherent, version1, link_at, case_edge, Turns, turns_none, turns_more, turns_all, few}
 use Rattle.lowering.proofs.Common.{link_read, link_points}
 use Rattle.lowering.specs.Spread.{case_edges}
 use Rattle.lowering.proofs.Theory.SpreadSteps.{case_edge_lowers}
@@ -15,7 +15,7 @@ decreases_loop file n m k t₀ i₀ t i = k - i
 loop_again : tie.Need-loop-preserved invariant_loop decreases_loop
 loop_again c =
     let lowers = case_edge_lowers version1 version1_coherent _ _ _ (link_points c.before.before.before.before.before.before.before.requires.0) in
-    search (turns_more, lowers, ← c.before.before.before.link_of.ensures, needs)
+    search (turns_more, lowers, ← c.before.before.before.link_of.ensures, rules)
 
 pub case_edges_spec : {M : Type 1} → statement M
 unfolding case_edges
@@ -23,7 +23,7 @@ case_edges_spec =
     tie.close
     (tie.spec invariant_loop decreases_loop
     (λ c. turns_none c.before.requires.1)
-    (λ c κs. search needs)
-    (λ c κs. search (few, link_read, needs))
-    (λ c. search needs) (λ c. search needs) loop_again (λ c. search needs)
-    (λ c. search (turns_all, needs)))
+    (λ c κs. search rules)
+    (λ c κs. search (few, link_read, rules))
+    (λ c. search rules) (λ c. search rules) loop_again (λ c. search rules)
+    (λ c. search (turns_all, rules)))

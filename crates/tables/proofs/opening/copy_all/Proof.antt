@@ -1,5 +1,5 @@
 -- `opening::copy_all` meets its contract: a turn for each cell. Assumes nothing.
-use Rattle.lowering.proofs.Common.{needs, ◌≡◌, ◌-◌, arith, get_or, pos, back, Writing, writing_none, writing_more, writing_all}
+use Rattle.lowering.proofs.Common.{rules, ◌≡◌, ◌-◌, arith, get_or, pos, back, Writing, writing_none, writing_more, writing_all}
 use borrow.Author.Rules.{sfits_of}
 use Rattle.tables.proofs.opening.copy_all.Statement.{statement}
 use Rattle.tables.proofs.opening.copy_all.Tie as tie
@@ -11,8 +11,8 @@ pub copy_all_spec : {M : Type 1} → statement M
 copy_all_spec =
     tie.close
     (tie.spec invariant_loop (λ strict t₀ count i₀ t i. count - i)
-    (λ c. writing_none) (λ c. search needs) (λ c. search needs) (λ c. search needs) (λ c. search needs)
-    (λ c. search needs) (λ c. search needs)
-    (λ c. search (writing_more, back, sfits_of, needs))
-    (λ c. search needs)
+    (λ c. writing_none) (λ c. search rules) (λ c. search rules) (λ c. search rules) (λ c. search rules)
+    (λ c. search rules) (λ c. search rules)
+    (λ c. search (writing_more, back, sfits_of, rules))
+    (λ c. search rules)
     (λ c. search (writing_all c.before.loop.invariant (omega arith))))

@@ -1,5 +1,5 @@
 -- `opening::follow_lowers` meets its contract: a turn for each second link. Assumes nothing.
-use Rattle.lowering.proofs.Common.{needs, ◌-◌, version1_coherent, version1, link_at, Turns, turns_none, turns_more, turns_all, few, link_read}
+use Rattle.lowering.proofs.Common.{rules, ◌-◌, version1_coherent, version1, link_at, Turns, turns_none, turns_more, turns_all, few, link_read}
 use Rattle.lowering.proofs.Common.{link_points}
 use Rattle.lowering.specs.Spread.{follow_lower, follow_lowers}
 use Rattle.lowering.proofs.Theory.SpreadSteps.{follow_lower_lowers}
@@ -17,16 +17,16 @@ loop_again c =
     let s = c.before.before.before.before.before.before.before.before in
     let lowers = follow_lower_lowers version1 version1_coherent _ _ _ (link_points s.requires.1) s.args.strict.now s.args.i s.requires.0 in
     let link_of = c.before.before.before.before.before.before.link_of in
-    search (turns_more, lowers, ← link_of.ensures, ← c.before.before.before.link-of2.ensures, needs)
+    search (turns_more, lowers, ← link_of.ensures, ← c.before.before.before.link-of2.ensures, rules)
 
 pub follow_lowers_spec : {M : Type 1} → statement M
 unfolding follow_lowers
 follow_lowers_spec =
     tie.close
     (tie.spec invariant_loop decreases_loop
-    (λ c κs. search needs)
+    (λ c κs. search rules)
     (λ c. turns_none c.before.before.requires.3)
-    (λ c κs. search needs)
-    (λ c κs. search (few, link_read, needs))
-    (λ c. search needs) (λ c. search needs) loop_again (λ c. search needs)
-    (λ c. search (turns_all, needs)))
+    (λ c κs. search rules)
+    (λ c κs. search (few, link_read, rules))
+    (λ c. search rules) (λ c. search rules) loop_again (λ c. search rules)
+    (λ c. search (turns_all, rules)))

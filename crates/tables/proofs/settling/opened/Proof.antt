@@ -1,5 +1,5 @@
 -- `settling::opened` meets its contract: a copy, and the lower-case edges taken in it. Assumes nothing.
-use Rattle.lowering.proofs.Common.{needs, arith, square_le, few}
+use Rattle.lowering.proofs.Common.{rules, arith, square_le, few}
 use Rattle.lowering.proofs.Theory.RoundsBegin.{copied_sound}
 use Rattle.tables.proofs.settling.opened.Statement.{statement}
 use Rattle.tables.proofs.settling.opened.Tie as tie
@@ -10,4 +10,4 @@ opened_spec =
     (tie.spec (λ c. omega (arith, square_le (few c.before.before.requires.0)))
     (λ c κs. search)
     (λ c κs. search copied_sound)
-    (λ c. search needs) (λ c. search needs))
+    (λ c. search rules) (λ c. search rules))

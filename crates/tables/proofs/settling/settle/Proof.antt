@@ -45,7 +45,7 @@ returns_2 c =
     let round = c.before.before.before.before in
     let look = round.before.before.before in
     let turn = look.before.before.before in
-    let fair = look.both-fair.ensures.holds (not-false _ round.before.before.if1.false) in
+    let fair = look.both-fair.ensures.holds (round.before.before.if1.false) in
     looked_yes
     (standing_ends (call turn).requires.0 (here turn) round.strict-round.ensures
     (sym c.before.strict-height2.ensures ∙ (c.if2.true ∙ turn.loop.invariant.1)) fair.0 fair.1)

@@ -1,5 +1,5 @@
 -- `timing::times_all` meets its contract: a turn for each point. Assumes nothing.
-use Rattle.lowering.proofs.Common.{needs, ◌-◌, arith, Writing, writing_none, writing_more, refl}
+use Rattle.lowering.proofs.Common.{rules, ◌-◌, arith, Writing, writing_none, writing_more, refl}
 use Rattle.tables.proofs.TimesWritten.{TimeOf, time_fits, time_is, all_timed}
 use Rattle.tables.proofs.timing.times_all.Statement.{statement}
 use Rattle.tables.proofs.timing.times_all.Tie as tie
@@ -21,7 +21,7 @@ pub times_all_spec : {M : Type 1} → statement M
 times_all_spec =
     tie.close
     (tie.spec invariant_loop decreases_loop
-    (λ c. writing_none) (λ c κs. search needs)
+    (λ c. writing_none) (λ c κs. search rules)
     (λ c κs. time_fits c.before.before.before.requires.1 c.before.before.loop.x (omega arith) c.get.ensures)
-    (λ c. search needs) (λ c. search needs) (λ c. search needs) (λ c. search needs) loop_again (λ c. search needs)
+    (λ c. search rules) (λ c. search rules) (λ c. search rules) (λ c. search rules) loop_again (λ c. search rules)
     (λ c. all_timed c.before.loop.invariant (omega arith)))

@@ -1,5 +1,5 @@
 -- `joins::join_all` meets its contract: a turn for each middle. Assumes nothing.
-use Rattle.lowering.proofs.Common.{◌-◌, adding, join_middle, join_all, Turns, turns_none, turns_more, turns_all, middle_lowers, needs}
+use Rattle.lowering.proofs.Common.{◌-◌, adding, join_middle, join_all, Turns, turns_none, turns_more, turns_all, middle_lowers, rules}
 use Rattle.wide.proofs.AddStart.{adding_coherent}
 use Rattle.wide.proofs.joins.join_all.Statement.{statement}
 use Rattle.wide.proofs.joins.join_all.Tie as tie
@@ -13,7 +13,7 @@ join_all_spec =
     tie.close
     (tie.spec invariant_loop (λ t₀ n y₀ t y. n - y)
     (λ c. turns_none c.requires.1)
-    (λ c κs. search needs) (λ c. search needs) (λ c. search needs)
-    (λ c. search (turns_more, middle_lowers adding adding_coherent, needs))
-    (λ c. search needs)
-    (λ c. search (turns_all, needs)))
+    (λ c κs. search rules) (λ c. search rules) (λ c. search rules)
+    (λ c. search (turns_more, middle_lowers adding adding_coherent, rules))
+    (λ c. search rules)
+    (λ c. search (turns_all, rules)))

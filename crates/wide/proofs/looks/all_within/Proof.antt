@@ -1,5 +1,5 @@
 -- `looks::all_within` meets its contract: every cell passed is within the reach, and one that is not is under it. Assumes nothing.
-use Rattle.lowering.proofs.Common.{needs, ◌-◌, arith, square_le, adding, CellWithin, Passed, none_yet, within_more, within_failed, within_all}
+use Rattle.lowering.proofs.Common.{rules, ◌-◌, arith, square_le, adding, CellWithin, Passed, none_yet, within_more, within_failed, within_all}
 use Rattle.wide.proofs.looks.all_within.Statement.{statement}
 use Rattle.wide.proofs.looks.all_within.Tie as tie
 
@@ -13,8 +13,8 @@ all_within_spec =
     (λ c. omega (arith, square_le c.requires.0))
     (λ c. none_yet)
     (λ c κs. omega (arith, c.before.before.requires.1.room, c.loop-test.true))
-    (λ c κs. search needs)
-    (λ c. search (within_failed, needs))
-    (λ c. search needs) (λ c. search needs)
-    (λ c. search (within_more, needs))
+    (λ c κs. search rules)
+    (λ c. search (within_failed, rules))
+    (λ c. search rules) (λ c. search rules)
+    (λ c. search (within_more, rules))
     (λ c. within_all c.before.loop.invariant (omega arith)))

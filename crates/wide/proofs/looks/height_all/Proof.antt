@@ -1,5 +1,5 @@
 -- `looks::height_all` meets its contract: the sum is that of the cells passed, and stays small. Assumes nothing.
-use Rattle.lowering.proofs.Common.{needs, ◌-◌, arith, adding, held_read, Summing, summing_none, summing_more, summing_most, summing_all}
+use Rattle.lowering.proofs.Common.{rules, ◌-◌, arith, adding, held_read, Summing, summing_none, summing_more, summing_most, summing_all}
 use Rattle.wide.proofs.looks.height_all.Statement.{statement}
 use Rattle.wide.proofs.looks.height_all.Tie as tie
 
@@ -26,6 +26,6 @@ height_all_spec =
     (tie.spec invariant_loop decreases_loop
     (λ c. summing_none)
     (λ c κs. omega (arith, c.before.before.requires.1.room, c.loop-test.true))
-    height_requires add_sum (λ c. search needs) (λ c. search needs)
-    (λ c. search (summing_more, needs))
-    (λ c. search (summing_all, needs)))
+    height_requires add_sum (λ c. search rules) (λ c. search rules)
+    (λ c. search (summing_more, rules))
+    (λ c. search (summing_all, rules)))

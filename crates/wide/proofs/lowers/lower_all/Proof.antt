@@ -1,5 +1,5 @@
 -- `lowers::lower_all` meets its contract: a turn for each link. Assumes nothing.
-use Rattle.lowering.proofs.Common.{◌-◌, arith, adding, link_at, lower_link, lower_all, Turns, turns_none, turns_more, turns_all, link_points, needs}
+use Rattle.lowering.proofs.Common.{◌-◌, arith, adding, link_at, lower_link, lower_all, Turns, turns_none, turns_more, turns_all, link_points, rules}
 use Rattle.wide.proofs.AddStart.{adding_coherent}
 use Rattle.lowering.proofs.Theory.SweepSteps.{link_lowers}
 use Rattle.wide.proofs.lowers.lower_all.Statement.{statement}
@@ -22,5 +22,5 @@ lower_all_spec =
     tie.close
     (tie.spec invariant_loop decreases_loop
     (λ c. search turns_none)
-    (λ c κs. search needs) (λ c. search needs) (λ c. search needs) loop_again (λ c. search needs)
+    (λ c κs. search rules) (λ c. search rules) (λ c. search rules) loop_again (λ c. search rules)
     (λ c. search (turns_all, arith)))

@@ -1,5 +1,5 @@
 -- `lowers::lower_link` meets its contract: a turn for each second link. Assumes nothing.
-use Rattle.lowering.proofs.Common.{◌-◌, arith, adding, link_at, lower_link, Turns, turns_none, turns_more, turns_all, few, link_read, link_points, needs}
+use Rattle.lowering.proofs.Common.{◌-◌, arith, adding, link_at, lower_link, Turns, turns_none, turns_more, turns_all, few, link_read, link_points, rules}
 use Rattle.wide.proofs.AddStart.{adding_coherent}
 use Rattle.lowering.specs.Sweep.{lower_pair}
 use Rattle.lowering.proofs.Theory.SweepSteps.{pair_lowers}
@@ -26,9 +26,9 @@ unfolding lower_link
 lower_link_spec =
     tie.close
     (tie.spec invariant_loop decreases_loop
-    (λ c κs. search needs)
+    (λ c κs. search rules)
     (λ c. search turns_none)
-    (λ c κs. search needs)
+    (λ c κs. search rules)
     (λ c κs. search (few, link_read, arith))
-    (λ c. search needs) (λ c. search needs) loop_again (λ c. search needs)
+    (λ c. search rules) (λ c. search rules) loop_again (λ c. search rules)
     (λ c. search (turns_all, arith)))

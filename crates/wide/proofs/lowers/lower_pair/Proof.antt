@@ -1,5 +1,5 @@
 -- `lowers::lower_pair` meets its contract: nothing for a link's own contingent point, else one cell lowered to what Lower yields. Assumes nothing.
-use Rattle.lowering.proofs.Common.{arith, link_of, spread_is, read_stored, needs}
+use Rattle.lowering.proofs.Common.{arith, link_of, spread_is, read_stored, rules}
 use Rattle.lowering.proofs.Laws.LinksAsRead.{pair_own, pair_is}
 use Rattle.cell.proofs.CellMethods.{stored_roomy}
 use Rattle.wide.proofs.AddStart.{weights_held}
@@ -14,7 +14,7 @@ returns_2 c =
 pub lower_pair_spec : {M : Type 1} → statement M
 lower_pair_spec =
     tie.close
-    (tie.spec (λ c. search pair_own) (λ c. search needs) (λ c. search needs) (λ c. search needs) (λ c κs. search needs)
-    (λ c. search needs)
+    (tie.spec (λ c. search pair_own) (λ c. search rules) (λ c. search rules) (λ c. search rules) (λ c κs. search rules)
+    (λ c. search rules)
     (λ c κs. (search (stored_roomy, read_stored), omega (arith, weights_held), omega (arith, weights_held)))
-    (λ c κs. search needs) (λ c. search needs) returns_2)
+    (λ c κs. search rules) (λ c. search rules) returns_2)

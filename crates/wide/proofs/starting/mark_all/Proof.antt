@@ -1,5 +1,5 @@
 -- `starting::mark_all` meets its contract: a turn for each cell. Assumes nothing.
-use Rattle.lowering.proofs.Common.{needs, ◌≡◌, ◌-◌, pos, arith, adding, number_of_lem, Writing, writing_none, writing_more, all_marked}
+use Rattle.lowering.proofs.Common.{rules, ◌≡◌, ◌-◌, pos, arith, adding, number_of_lem, Writing, writing_none, writing_more, all_marked}
 use Rattle.wide.proofs.starting.mark_all.Statement.{statement}
 use Rattle.wide.proofs.starting.mark_all.Tie as tie
 
@@ -13,12 +13,12 @@ loop_again : tie.Need-loop-preserved invariant_loop decreases_loop
 unfolding adding
 loop_again c =
     let e : c.before.before.before.mark.result.v ≡ pos adding.mark = number_of_lem adding.mark c.before.before.before.mark.ensures in
-    search (writing_more, e, needs)
+    search (writing_more, e, rules)
 
 pub mark_all_spec : {M : Type 1} → statement M
 mark_all_spec =
     tie.close
     (tie.spec invariant_loop decreases_loop
-    (λ c κs. search needs) (λ c. writing_none) (λ c. search needs) (λ c. search needs) (λ c. search needs)
-    (λ c. search needs) loop_again (λ c. search needs)
-    (λ c. all_marked adding c.before.loop.invariant (omega arith) (search needs)))
+    (λ c κs. search rules) (λ c. writing_none) (λ c. search rules) (λ c. search rules) (λ c. search rules)
+    (λ c. search rules) loop_again (λ c. search rules)
+    (λ c. all_marked adding c.before.loop.invariant (omega arith) (search rules)))

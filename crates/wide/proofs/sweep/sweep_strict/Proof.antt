@@ -1,5 +1,5 @@
 -- `sweep::sweep_strict` meets its contract: joins, then Lower, then Upper. Assumes nothing.
-use Rattle.lowering.proofs.Common.{needs, few}
+use Rattle.lowering.proofs.Common.{rules, few}
 use Rattle.lowering.specs.Sweep.{sweep_strict}
 use Rattle.wide.proofs.WideCells.{sound_joins, sound_lower}
 use Rattle.wide.proofs.sweep.sweep_strict.Statement.{statement}
@@ -21,4 +21,4 @@ sweep_strict_spec =
     tie.close
     (tie.spec (λ c κs. search few)
     (λ c κs. search sound_joins)
-    upper_all_requires (λ c. search needs) returns)
+    upper_all_requires (λ c. search rules) returns)

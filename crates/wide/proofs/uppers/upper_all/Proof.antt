@@ -1,5 +1,5 @@
 -- `uppers::upper_all` meets its contract: a turn for each point. Assumes nothing.
-use Rattle.lowering.proofs.Common.{◌-◌, arith, adding, link_at, upper_point, upper_all, Turns, turns_none, turns_more, turns_all, link_points, needs}
+use Rattle.lowering.proofs.Common.{◌-◌, arith, adding, link_at, upper_point, upper_all, Turns, turns_none, turns_more, turns_all, link_points, rules}
 use Rattle.wide.proofs.AddStart.{adding_coherent}
 use Rattle.lowering.proofs.Theory.SweepSteps.{upper_point_lowers}
 use Rattle.wide.proofs.uppers.upper_all.Statement.{statement}
@@ -14,7 +14,7 @@ upper_all_spec =
     tie.close
     (tie.spec invariant_loop (λ file n m k t₀ x₀ t x. n - x)
     (λ c. search turns_none)
-    (λ c κs. search needs) (λ c. search needs) (λ c. search needs)
+    (λ c κs. search rules) (λ c. search rules) (λ c. search rules)
     (λ c. search (turns_more, upper_point_lowers, adding_coherent, link_points, arith))
-    (λ c. search needs)
+    (λ c. search rules)
     (λ c. search (turns_all, arith)))

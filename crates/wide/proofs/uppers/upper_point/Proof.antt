@@ -1,5 +1,5 @@
 -- `uppers::upper_point` meets its contract: a turn for each link. Assumes nothing.
-use Rattle.lowering.proofs.Common.{needs, ◌-◌, arith, adding, link_at, upper_point, Turns, turns_none, turns_more, turns_all, few, link_read, link_points, at_read}
+use Rattle.lowering.proofs.Common.{rules, ◌-◌, arith, adding, link_at, upper_point, Turns, turns_none, turns_more, turns_all, few, link_read, link_points, at_read}
 use Rattle.wide.proofs.AddStart.{adding_coherent}
 use Rattle.lowering.specs.Sweep.{upper_cell}
 use Rattle.lowering.proofs.Theory.SweepSteps.{upper_cell_lowers}
@@ -25,7 +25,7 @@ upper_point_spec =
     tie.close
     (tie.spec invariant_loop decreases_loop
     (λ c. search turns_none)
-    (λ c κs. search needs)
+    (λ c κs. search rules)
     (λ c κs. search (few, link_read, arith))
-    (λ c. search needs) (λ c. search needs) loop_again (λ c. search needs)
+    (λ c. search rules) (λ c. search rules) loop_again (λ c. search rules)
     (λ c. search (turns_all, arith)))

@@ -1,5 +1,5 @@
 -- `asking::both` meets its contract: the bits that both words have, or with a refusal none. Assumes nothing.
-use Rattle.lowering.proofs.Common.{needs, arith, length, refl}
+use Rattle.lowering.proofs.Common.{rules, arith, length, refl}
 use Rattle.plan.proofs.SoundFile.{is_accepted, not_accepted}
 use Rattle.words.proofs.WordAnswers.{Asked, asked_done, both_refused, both_word}
 use Rattle.words.proofs.asking.both.Statement.{statement}
@@ -22,7 +22,7 @@ returns_2 c =
 pub both_spec : {M : Type 1} → statement M
 both_spec =
     tie.close
-    (tie.spec (λ c κs. search needs) (λ c κs. search needs) returns
-    (λ c. search needs) (λ c. let t = let_through c.before in omega (arith, t.first, t.room))
-    (λ c. search needs) (λ c. let t = let_through c.before.before in omega (arith, t.second, t.room))
+    (tie.spec (λ c κs. search rules) (λ c κs. search rules) returns
+    (λ c. search rules) (λ c. let t = let_through c.before in omega (arith, t.first, t.room))
+    (λ c. search rules) (λ c. let t = let_through c.before.before in omega (arith, t.second, t.room))
     returns_2)

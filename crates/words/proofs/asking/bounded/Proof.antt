@@ -1,5 +1,5 @@
 -- `asking::bounded` meets its contract: the numbers of the word of x, or with a refusal those of a word of 0. Assumes nothing.
-use Rattle.lowering.proofs.Common.{needs, arith, length, refl}
+use Rattle.lowering.proofs.Common.{rules, arith, length, refl}
 use Rattle.plan.proofs.SoundFile.{is_accepted, not_accepted}
 use Rattle.words.proofs.WordAnswers.{Asked, asked_done, bounded_refused, bounded_numbers}
 use Rattle.words.proofs.asking.bounded.Statement.{statement}
@@ -26,5 +26,5 @@ returns_2 c =
 pub bounded_spec : {M : Type 1} → statement M
 bounded_spec =
     tie.close
-    (tie.spec (λ c κs. search needs) (λ c κs. search needs) (λ c κs. search needs) returns
-    (λ c. search needs) shared_slice_read_numbers (λ c κs. search needs) returns_2)
+    (tie.spec (λ c κs. search rules) (λ c κs. search rules) (λ c κs. search rules) returns
+    (λ c. search rules) shared_slice_read_numbers (λ c κs. search rules) returns_2)

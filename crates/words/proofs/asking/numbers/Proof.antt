@@ -1,5 +1,5 @@
 -- `asking::numbers` meets its contract: ones, trailing zeros and the highest bit. Assumes nothing.
-use Rattle.lowering.proofs.Common.{needs, refl}
+use Rattle.lowering.proofs.Common.{rules, refl}
 use Rattle.words.proofs.BitCounts.{ones_number, trailing_lowest}
 use Rattle.words.proofs.asking.numbers.Statement.{statement}
 use Rattle.words.proofs.asking.numbers.Tie as tie
@@ -10,4 +10,4 @@ returns c =
     (refl, record { number_is = ones_number 64 w c.before.ranges.w.fits; lowest_is = trailing_lowest w; highest_is = c.highest.ensures })
 
 pub numbers_spec : {M : Type 1} → statement M
-numbers_spec = tie.close (tie.spec (λ c κs. search needs) returns)
+numbers_spec = tie.close (tie.spec (λ c κs. search rules) returns)

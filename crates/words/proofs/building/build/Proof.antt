@@ -1,5 +1,5 @@
 -- `building::build` meets its contract: a turn for each point. Assumes nothing.
-use Rattle.lowering.proofs.Common.{needs, arith, ◌-◌, ◌≤◌}
+use Rattle.lowering.proofs.Common.{rules, arith, ◌-◌, ◌≤◌}
 use Rattle.words.specs.Sets.{word_of}
 use Rattle.words.specs.Calls.{bounds, FirstWords}
 use Rattle.words.proofs.WordsWritten.{first_none, first_more, first_all}
@@ -16,14 +16,14 @@ loop_again : tie.Need-loop-preserved invariant_loop decreases_loop
 loop_again c =
     let loop = c.before.before.loop in
     let pre = c.before.before.before.before.requires in
-    (search needs, first_more _ loop.invariant.1 (omega (arith, pre.2)) c.word.ensures)
+    (search rules, first_more _ loop.invariant.1 (omega (arith, pre.2)) c.word.ensures)
 
 returns : tie.Need-returns invariant_loop decreases_loop
-returns c = first_all c.before.loop.invariant.1 c.before.loop.invariant.0 (search needs)
+returns c = first_all c.before.loop.invariant.1 c.before.loop.invariant.0 (search rules)
 
 pub build_spec : {M : Type 1} → statement M
 build_spec =
     tie.close
-    (tie.spec invariant_loop decreases_loop (λ c. (omega arith, first_none)) (λ c κs. search needs) (λ c. omega arith)
-    (λ c. omega (arith, c.before.before.loop.invariant.1.length_same)) (λ c. search needs) (λ c. search needs) loop_again
+    (tie.spec invariant_loop decreases_loop (λ c. (omega arith, first_none)) (λ c κs. search rules) (λ c. omega arith)
+    (λ c. omega (arith, c.before.before.loop.invariant.1.length_same)) (λ c. search rules) (λ c. search rules) loop_again
     (λ c. c.before.loop.invariant.1.length_same) returns)

@@ -1,5 +1,5 @@
 -- `building::reach` meets its contract: n, then the table and the words, then the building. Assumes nothing.
-use Rattle.lowering.proofs.Common.{needs, refl}
+use Rattle.lowering.proofs.Common.{rules, refl}
 use Rattle.plan.proofs.SoundFile.{is_accepted, not_accepted}
 use Rattle.words.specs.Calls.{Reached}
 use Rattle.words.proofs.WordAnswers.{room_done}
@@ -23,4 +23,4 @@ returns_2 c =
 
 pub reach_spec : {M : Type 1} → statement M
 reach_spec =
-    tie.close (tie.spec (λ c κs. search needs) (λ c κs. search needs) returns build_requires (λ c. search needs) returns_2)
+    tie.close (tie.spec (λ c κs. search rules) (λ c κs. search rules) returns build_requires (λ c. search rules) returns_2)

@@ -1,6 +1,6 @@
 -- `building::word` meets its contract: a bit for each point whose cell is no mark. Assumes nothing.
 use mathlib.Core.Logic.{⊎_elim}
-use Rattle.lowering.proofs.Common.{needs, arith, ◌-◌, ◌≤◌, ◌≡◌, refl, ◌∙◌}
+use Rattle.lowering.proofs.Common.{rules, arith, ◌-◌, ◌≤◌, ◌≡◌, refl, ◌∙◌}
 use Rattle.words.specs.Sets.{word_of}
 use Rattle.words.specs.Calls.{bounds}
 use Rattle.words.proofs.WordsWritten.{bound_read, bit_set, bit_left, word_all}
@@ -23,18 +23,18 @@ loop_again c =
     let args = c.before.before.before.before.before.args in
     let bounded = bounds args.n args.strict.now args.x in
     let is = bound_read args.n args.x loop.y args.strict.now c.before.before.get.ensures c.before.is_mark_lem.ensures in (
-      search needs,
-      ⊎_elim (λ w. w.1 ∙ bit_set bounded loop.invariant.1 (search needs) (is ∙ w.0.taken)) (λ w. w.1 ∙ bit_left bounded loop.invariant.1 (is ∙ w.0.left))
+      search rules,
+      ⊎_elim (λ w. w.1 ∙ bit_set bounded loop.invariant.1 (search rules) (is ∙ w.0.taken)) (λ w. w.1 ∙ bit_left bounded loop.invariant.1 (is ∙ w.0.left))
           c.if1.branch,
     )
 
 returns : tie.Need-returns invariant_loop decreases_loop
 returns c =
     let args = c.before.before.args in
-    word_all args.n (bounds args.n args.strict.now args.x) c.before.loop.invariant.1 c.before.loop.invariant.0 (search needs)
+    word_all args.n (bounds args.n args.strict.now args.x) c.before.loop.invariant.1 c.before.loop.invariant.0 (search rules)
 
 pub word_spec : {M : Type 1} → statement M
 word_spec =
     tie.close
     (tie.spec invariant_loop decreases_loop loop_holds
-    (λ c κs. search needs) (λ c κs. search needs) (λ c. search needs) (λ c. search needs) (λ c. search needs) loop_again returns)
+    (λ c κs. search rules) (λ c κs. search rules) (λ c. search rules) (λ c. search rules) (λ c. search rules) loop_again returns)

@@ -1,5 +1,5 @@
 -- `handing::both_into` meets its contract: the word that `both` answers, where there is room. Assumes nothing.
-use Rattle.lowering.proofs.Common.{needs}
+use Rattle.lowering.proofs.Common.{rules}
 use Rattle.words.proofs.HandedOut.{both_into_refused, both_into_short, both_into_handed}
 use Rattle.words.proofs.handing.both_into.Statement.{statement}
 use Rattle.words.proofs.handing.both_into.Tie as tie
@@ -20,4 +20,4 @@ returns_3 c =
 pub both_into_spec : {M : Type 1} → statement M
 both_into_spec =
     tie.close
-    (tie.spec (λ c κs. search needs) (λ c κs. search needs) returns returns_2 (λ c. search needs) (λ c. search needs) returns_3)
+    (tie.spec (λ c κs. search rules) (λ c κs. search rules) returns returns_2 (λ c. search rules) (λ c. search rules) returns_3)

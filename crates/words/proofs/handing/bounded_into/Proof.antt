@@ -1,5 +1,5 @@
 -- `handing::bounded_into` meets its contract: the numbers that `bounded` answers, where there is room. Assumes nothing.
-use Rattle.lowering.proofs.Common.{needs, arith}
+use Rattle.lowering.proofs.Common.{rules, arith}
 use Rattle.words.proofs.HandedOut.{bounded_into_refused, bounded_into_short, bounded_into_handed, kept_room}
 use Rattle.words.proofs.handing.bounded_into.Statement.{statement}
 use Rattle.words.proofs.handing.bounded_into.Tie as tie
@@ -24,5 +24,5 @@ second c = let out = c.before.before.before.before.before.before.args.out.now in
 pub bounded_into_spec : {M : Type 1} → statement M
 bounded_into_spec =
     tie.close
-    (tie.spec (λ c κs. search needs) (λ c κs. search needs) returns returns_2
-    (λ c. search needs) second (λ c. search needs) (λ c. search needs) returns_3)
+    (tie.spec (λ c κs. search rules) (λ c κs. search rules) returns returns_2
+    (λ c. search rules) second (λ c. search rules) (λ c. search rules) returns_3)

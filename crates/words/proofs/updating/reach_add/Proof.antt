@@ -1,5 +1,5 @@
 -- `updating::reach_add` meets its contract: n and the points, then n words, then the update. Assumes nothing.
-use Rattle.lowering.proofs.Common.{needs, length, refl}
+use Rattle.lowering.proofs.Common.{rules, length, refl}
 use Rattle.plan.proofs.SoundFile.{is_accepted, not_accepted}
 use Rattle.words.specs.Calls.{ReachAdded}
 use Rattle.words.proofs.WordAnswers.{Asked, asked_done}
@@ -26,4 +26,4 @@ returns_2 c =
 pub reach_add_spec : {M : Type 1} → statement M
 reach_add_spec =
     tie.close
-    (tie.spec (λ c κs. search needs) (λ c κs. search needs) returns update_requires (λ c. search needs) returns_2)
+    (tie.spec (λ c κs. search rules) (λ c κs. search rules) returns update_requires (λ c. search rules) returns_2)

@@ -1,5 +1,5 @@
 -- `updating::take` meets its contract: the bits of both words where bit x is set. Assumes nothing.
-use Rattle.lowering.proofs.Common.{needs}
+use Rattle.lowering.proofs.Common.{rules}
 use Rattle.words.proofs.WordsWritten.{bits_taken, bits_not_taken}
 use Rattle.words.proofs.updating.take.Statement.{statement}
 use Rattle.words.proofs.updating.take.Tie as tie
@@ -7,6 +7,6 @@ use Rattle.words.proofs.updating.take.Tie as tie
 pub take_spec : {M : Type 1} → statement M
 take_spec =
     tie.close
-    (tie.spec (λ c. search needs)
+    (tie.spec (λ c. search rules)
     (λ c. bits_taken _ _ _ c.before.ranges.w.fits c.before.ranges.to.fits c.if1.true)
     (λ c. bits_not_taken _ _ _ c.if1.false))

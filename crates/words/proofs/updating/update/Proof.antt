@@ -1,5 +1,5 @@
 -- `updating::update` meets its contract: a turn for each word, with word y as it was at the start. Assumes nothing.
-use Rattle.lowering.proofs.Common.{needs, arith, ◌-◌, ◌≤◌, ap, ◌∙◌}
+use Rattle.lowering.proofs.Common.{rules, arith, ◌-◌, ◌≤◌, ap, ◌∙◌}
 use Rattle.words.specs.Calls.{point_word, taking, FirstWords}
 use Rattle.words.proofs.WordsWritten.{first_none, first_more, first_all}
 use Rattle.words.proofs.updating.update.Statement.{statement}
@@ -15,10 +15,10 @@ loop_again : tie.Need-loop-preserved invariant_loop decreases_loop
 loop_again c =
     let loop = c.before.before.before.loop in
     let pre = c.before.before.before.before.before.before.requires in
-    (search needs, first_more _ loop.invariant.1 (omega (arith, pre.3)) (c.take.ensures ∙ ap (taking _ _) (loop.invariant.1.beyond_same loop.i (omega arith))))
+    (search rules, first_more _ loop.invariant.1 (omega (arith, pre.3)) (c.take.ensures ∙ ap (taking _ _) (loop.invariant.1.beyond_same loop.i (omega arith))))
 
 returns : tie.Need-returns invariant_loop decreases_loop
-returns c = first_all c.before.loop.invariant.1 c.before.loop.invariant.0 (search needs)
+returns c = first_all c.before.loop.invariant.1 c.before.loop.invariant.0 (search rules)
 
 pub update_spec : {M : Type 1} → statement M
 update_spec =
@@ -26,4 +26,4 @@ update_spec =
     (tie.spec invariant_loop decreases_loop (λ c. omega arith) (λ c. omega arith) (λ c. (omega arith, first_none))
     (λ c. omega arith) (λ c. omega (arith, c.before.before.loop.invariant.1.length_same)) (λ c κs. omega arith)
     (λ c. omega arith) (λ c. omega (arith, c.before.before.before.loop.invariant.1.length_same))
-    (λ c. search needs) (λ c. search needs) loop_again (λ c. c.before.loop.invariant.1.length_same) returns)
+    (λ c. search rules) (λ c. search rules) loop_again (λ c. c.before.loop.invariant.1.length_same) returns)

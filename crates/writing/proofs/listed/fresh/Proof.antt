@@ -1,6 +1,6 @@
 -- `listed::fresh` meets its contract. The loop's invariant: what is asked of all i links is what is asked of the first j.
 -- Assumes nothing.
-use Rattle.writing.proofs.Common.{◌≡◌, ◌≤◌, refl, arith, needs, link_in, earlier}
+use Rattle.writing.proofs.Common.{◌≡◌, ◌≤◌, refl, arith, rules, link_in, earlier}
 use Rattle.plan.specs.File.{fresh}
 use Rattle.plan.proofs.RecordTurns.{fresh_next, fresh_stop, fresh_end}
 use Rattle.writing.proofs.listed.fresh.Statement.{statement}
@@ -14,7 +14,7 @@ pub fresh_spec : {M : Type 1} → statement M
 fresh_spec =
     tie.close
     (tie.spec invariant_loop (λ act con short long i point j₀ j. j)
-    (λ c. (omega arith, refl)) (λ c. omega arith) (λ c κs. search needs)
+    (λ c. (omega arith, refl)) (λ c. omega arith) (λ c κs. search rules)
     (λ c. search (fresh_stop, arith))
     (λ c. omega arith)
     (λ c. (omega arith, search (fresh_next, arith)))

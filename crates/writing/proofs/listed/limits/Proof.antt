@@ -1,6 +1,6 @@
 -- `listed::limits` meets its contract. The loop's invariant: the answer to all limits is the answer to those from index i on.
 -- Assumes nothing.
-use Rattle.writing.proofs.Common.{◌≡◌, ◌-◌, ◌≤◌, sub-zero, arith, needs, version1, limit_in, records}
+use Rattle.writing.proofs.Common.{◌≡◌, ◌-◌, ◌≤◌, sub-zero, arith, rules, version1, limit_in, records}
 use Rattle.plan.specs.File.{limits_answer}
 use Rattle.plan.proofs.RecordTurns.{limits_next, limits_stop, limits_end}
 use Rattle.writing.proofs.listed.limits.Statement.{statement}
@@ -25,7 +25,7 @@ limits_spec =
     tie.close
     (tie.spec invariant_loop (λ n m from to weight i₀ i. m - i)
     (λ c. (omega arith, rw sub-zero))
-    (λ c κs. search needs) (λ c κs. omega arith) (λ c κs. search needs)
+    (λ c κs. search rules) (λ c κs. omega arith) (λ c κs. search rules)
     returns
     (λ c. omega arith) (λ c. omega arith)
     (λ c. (omega arith, search (limits_next, arith)))

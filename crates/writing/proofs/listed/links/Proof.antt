@@ -1,6 +1,6 @@
 -- `listed::links` meets its contract. The loop's invariant: the answer to all links is the answer to those from index i on, after
 -- those before it. Assumes nothing.
-use Rattle.writing.proofs.Common.{◌≡◌, ◌-◌, ◌≤◌, sub-zero, arith, needs, version1, link_in, records, earlier}
+use Rattle.writing.proofs.Common.{◌≡◌, ◌-◌, ◌≤◌, sub-zero, arith, rules, version1, link_in, records, earlier}
 use mathlib.Core.List.{[]}
 use Rattle.plan.specs.File.{links_answer}
 use Rattle.plan.proofs.RecordTurns.{links_next, links_stop, links_end}
@@ -28,7 +28,7 @@ links_spec =
     tie.close
     (tie.spec invariant_loop (λ n m k act con short long i₀ i. k - i)
     (λ c. (omega arith, rw sub-zero))
-    (λ c κs. search needs) (λ c κs. search needs) (λ c κs. (omega arith, omega arith)) (λ c κs. search needs)
+    (λ c κs. search rules) (λ c κs. search rules) (λ c κs. (omega arith, omega arith)) (λ c κs. search rules)
     returns
     (λ c. omega arith) (λ c. omega arith)
     (λ c. (omega arith, search (links_next, arith)))

@@ -1,6 +1,6 @@
 -- `puts::put_links` meets its contract. The loop's invariant: the first i links are written.
 -- Assumes nothing.
-use Rattle.writing.proofs.Common.{◌-◌, ◌≤◌, arith, needs, link_in}
+use Rattle.writing.proofs.Common.{◌-◌, ◌≤◌, arith, rules, link_in}
 use Rattle.plan.specs.Layout.{limit_offset, link_fields}
 use Rattle.writing.proofs.FieldsPut.{RecordsPut, records_none, link_next, all_put}
 use Rattle.writing.proofs.puts.put_links.Statement.{statement}
@@ -19,9 +19,9 @@ pub put_links_spec : {M : Type 1} → statement M
 put_links_spec =
     tie.close
     (tie.spec invariant_loop (λ buffer₀ m k act con short long first i₀ buffer i. k - i)
-    (λ c. search needs) (λ c. search needs)
-    (λ c. (omega arith, records_none _ _ _ _)) (λ c. omega arith) (λ c. omega arith) (λ c. omega arith) (λ c κs. search needs)
+    (λ c. search rules) (λ c. search rules)
+    (λ c. (omega arith, records_none _ _ _ _)) (λ c. omega arith) (λ c. omega arith) (λ c. omega arith) (λ c κs. search rules)
     (λ c κs. omega arith) (λ c. omega arith) (λ c. omega arith)
     loop_again
-    (λ c. search needs)
+    (λ c. search rules)
     (λ c. search (all_put, arith)))

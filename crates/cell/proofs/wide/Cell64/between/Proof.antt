@@ -1,5 +1,5 @@
 -- `Cell64::between` meets its contract: the mark is in every reach, and a number where no test against an end holds. Assumes nothing.
-use Rattle.cell.proofs.Common.{needs, ◌≡◌, tested, num, cell64, is_mark_lem, no_mark, reach_mark, reach_above, reach_below, reach_within}
+use Rattle.cell.proofs.Common.{rules, ◌≡◌, tested, num, cell64, is_mark_lem, no_mark, reach_mark, reach_above, reach_below, reach_within}
 use Rattle.cell.proofs.wide.Cell64.between.Statement.{statement}
 use Rattle.cell.proofs.wide.Cell64.between.Tie as tie
 
@@ -16,10 +16,10 @@ returns_4 c n el em =
 pub between_spec : {M : Type 1} → statement M
 between_spec =
     tie.close
-    (tie.spec (λ c κs. search needs)
+    (tie.spec (λ c κs. search rules)
     (λ c n el em. search (reach_mark, is_mark_lem))
-    (λ c κs. search needs)
+    (λ c κs. search rules)
     (λ c n el em. reach_above n (cell c.before.before) (rw em at (tested c.before.less.ensures c.if2.true)))
-    (λ c κs. search needs)
+    (λ c κs. search rules)
     (λ c n el em. search (reach_below n (cell c.before.before.before.before), rw el at (tested c.before.less2.ensures c.if3.true)))
     returns_4)

@@ -1,5 +1,5 @@
 -- `Cell64::height` meets its contract: the mark stands highest, and past the test for it the cell is a number. Assumes nothing.
-use Rattle.cell.proofs.Common.{needs, arith, adding, cell64, Number, number, is_mark_lem, room64, height_mark, height_fits, height_casts, height_is}
+use Rattle.cell.proofs.Common.{rules, arith, adding, cell64, Number, number, is_mark_lem, room64, height_mark, height_fits, height_casts, height_is}
 use Rattle.cell.proofs.wide.Cell64.height.Statement.{statement}
 use Rattle.cell.proofs.wide.Cell64.height.Tie as tie
 
@@ -10,7 +10,7 @@ pub height_spec : {M : Type 1} → statement M
 unfolding adding
 height_spec =
     tie.close
-    (tie.spec (λ c κs. search needs)
+    (tie.spec (λ c κs. search rules)
     (λ c. search (height_mark adding.reach (cell64 c.before.before.args.self.v), is_mark_lem))
     (λ c κs. height_fits room64 (cell c))
     (λ c. height_casts room64 (cell c.before.before.before) (omega arith) c.before.before.plus.ensures)

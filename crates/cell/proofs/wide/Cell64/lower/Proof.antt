@@ -1,5 +1,5 @@
 -- `Cell64::lower` meets its contract: the mark stays, and past the test for it the cell is a number. Assumes nothing.
-use Rattle.cell.proofs.Common.{needs, ◌∙◌, tested, roomy, Number, number, is_mark_lem, room_roomy, lower_mark, lower_fits, lower_yes, lower_no}
+use Rattle.cell.proofs.Common.{rules, ◌∙◌, tested, roomy, Number, number, is_mark_lem, room_roomy, lower_mark, lower_fits, lower_yes, lower_no}
 use Rattle.cell.proofs.wide.Cell64.lower.Statement.{statement}
 use Rattle.cell.proofs.wide.Cell64.lower.Tie as tie
 
@@ -21,7 +21,7 @@ returns_2 c k j e f =
 pub lower_spec : {M : Type 1} → statement M
 lower_spec =
     tie.close
-    (tie.spec (λ c κs. search needs)
+    (tie.spec (λ c κs. search rules)
     (λ c k j _ _. search (lower_mark, is_mark_lem))
-    (λ c κs. search needs) (λ c κs. search needs) (λ c κs. search needs) plus_requires returns_2 (λ c κs. search needs)
+    (λ c κs. search rules) (λ c κs. search rules) (λ c κs. search rules) plus_requires returns_2 (λ c κs. search rules)
     (λ c k j e f. search (lower_no, room_roomy, cell c.before.before.before.before, tested, ◌∙◌)))

@@ -1,5 +1,5 @@
 -- `Cell64::narrowed` meets its contract: the mark becomes the mark, and a number of the reach keeps its value. Assumes nothing.
-use Rattle.cell.proofs.Common.{needs, ◌≡◌, sym, ◌∙◌, w64, SFits, signed, back, fit, version1, num, cell64, is_mark_lem, no_mark, cast_cell}
+use Rattle.cell.proofs.Common.{rules, ◌≡◌, sym, ◌∙◌, w64, SFits, signed, back, fit, version1, num, cell64, is_mark_lem, no_mark, cast_cell}
 use Rattle.rules.specs.Cells.{Within}
 use Rattle.cell.proofs.wide.Cell64.narrowed.Statement.{statement}
 use Rattle.cell.proofs.wide.Cell64.narrowed.Tie as tie
@@ -24,6 +24,6 @@ returns_2 c = let r = range c.before.before in cast_cell version1.mark (fits c) 
 pub narrowed_spec : {M : Type 1} → statement M
 narrowed_spec =
     tie.close
-    (tie.spec (λ c κs. search needs) (λ c κs. search needs)
+    (tie.spec (λ c κs. search rules) (λ c κs. search rules)
     (λ c. search (c.mark.ensures, is_mark_lem, sym, ◌∙◌))
     cast_t3 returns_2)

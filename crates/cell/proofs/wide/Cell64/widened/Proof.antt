@@ -1,5 +1,5 @@
 -- `Cell64::widened` meets its contract: the mark becomes the mark, and a number keeps its value. Assumes nothing.
-use Rattle.cell.proofs.Common.{needs, ◌≡◌, sym, ◌∙◌, w32, SFits, signed, back, fit, num, adding, cell32, is_mark_lem, no_mark, cast_cell}
+use Rattle.cell.proofs.Common.{rules, ◌≡◌, sym, ◌∙◌, w32, SFits, signed, back, fit, num, adding, cell32, is_mark_lem, no_mark, cast_cell}
 use Rattle.whole.proofs.Bits.{kept}
 use Rattle.cell.proofs.wide.Cell64.widened.Statement.{statement}
 use Rattle.cell.proofs.wide.Cell64.widened.Tie as tie
@@ -17,7 +17,7 @@ returns_2 c = cast_cell adding.mark (fits c) (omega (signed, kept (fits c))) (ce
 pub widened_spec : {M : Type 1} → statement M
 widened_spec =
     tie.close
-    (tie.spec (λ c κs. search needs) (λ c κs. search needs)
+    (tie.spec (λ c κs. search rules) (λ c κs. search rules)
     (λ c. search (c.mark.ensures, is_mark_lem, sym, ◌∙◌))
     (λ c. rw (back (fits c)) (omega (signed, kept (fits c))))
     returns_2)
