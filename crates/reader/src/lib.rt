@@ -1,6 +1,6 @@
 // The reader struct: a plan file that is lent, held with its counts, giving limit i and link i where they lie.
-// The borrow checker covers no function over a struct that holds a slice, so each is thin: `counted` makes the reader, `limit` and `link` take it
-// apart and call the covered function on the slice and the numbers. Who calls the last two, whose parameters are plain, needs no walk by hand.
+// Each function is thin: `counted` makes the reader, `limit` and `link` take it apart and call the function on the slice and the numbers. The last two
+// have plain parameters.
 #![tactic(auto)]
 
 ghost use Rattle.std.specs.Prelude.{◌≡◌};

@@ -15,8 +15,8 @@ given s =
 returns : tie.Need-returns
 returns c =
     let start = c.before.before.before.before.before.before.before.before.before.before.before.before.before.before.before.before.before.before.before in
-    laid_down (given start) start.args.buffer.now start.requires.1 c.before.before.before.before.before.before.before.before.before.before.put-head.ensures
-    c.before.before.before.before.before.before.put-limits.ensures c.before.before.put-links.ensures
+    laid_down (given start) start.args.buffer-1.now start.requires.1 c.before.before.before.before.before.before.before.before.before.before.put_head.ensures
+    c.before.before.before.before.before.before.put_limits.ensures c.before.before.put_links.ensures
 
 pub lay_down_spec : {M : Type 1} → statement M
 unfolding version1

@@ -13,27 +13,27 @@ given s =
     let a = s.args in
     lists a.n a.from.now a.to.now a.weight.now a.act.now a.con.now a.short.now a.long.now
 
-abbrev start : tie.Else1 → tie.Start
+abbrev start : tie.Else-not-accepted → tie.Start
 start c = c.before.before.before.before.before.before.before.before.before.before
 
 -- past the first test m and k are small and the lists even
-known : (c : tie.Else1) → ListsOk (given (start c))
+known : (c : tie.Else-not-accepted) → ListsOk (given (start c))
 known c =
-    counts_passed (given (start c)) c.before.before.before.even.ensures c.before.before.counts-answer.ensures c.before.accepted.ensures
-    c.if1.false
+    counts_passed (given (start c)) c.before.before.before.even-laid.ensures c.before.before.counts_answer-a.ensures c.before.accepted.ensures
+    c.if-not-accepted.false
 
-returns_2 : tie.Need-returns-2
+returns_2 : tie.Need-returns-then-not-accepted-2
 returns_2 c =
     let past = c.before.before.before in
-    limits_refused (given (start past)) past.before.before.before.even.ensures past.before.before.counts-answer.ensures
-    past.before.accepted.ensures past.if1.false c.before.before.limits.ensures c.before.accepted2.ensures c.if2.true
+    limits_refused (given (start past)) past.before.before.before.even-laid.ensures past.before.before.counts_answer-a.ensures
+    past.before.accepted.ensures past.if-not-accepted.false c.before.before.limits-b.ensures c.before.accepted-2.ensures c.if-not-accepted-2.true
 
-returns_3 : tie.Need-returns-3
+returns_3 : tie.Need-returns
 returns_3 c =
     let past = c.before.before.before.before in
-    links_answer_lem (given (start past)) past.before.before.before.even.ensures past.before.before.counts-answer.ensures
-    past.before.accepted.ensures past.if1.false c.before.before.before.limits.ensures c.before.before.accepted2.ensures
-    c.before.if2.false c.links.ensures
+    links_answer_lem (given (start past)) past.before.before.before.even-laid.ensures past.before.before.counts_answer-a.ensures
+    past.before.accepted.ensures past.if-not-accepted.false c.before.before.before.limits-b.ensures c.before.before.accepted-2.ensures
+    c.before.if-not-accepted-2.false c.links.ensures
 
 pub lists_answer_spec : {M : Type 1} → statement M
 unfolding version1

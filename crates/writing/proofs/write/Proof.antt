@@ -13,20 +13,20 @@ given s =
     let a = s.args in
     lists a.n a.from.now a.to.now a.weight.now a.act.now a.con.now a.short.now a.long.now
 
-abbrev start : tie.Else1 → tie.Start
+abbrev start : tie.Else-not-accepted → tie.Start
 start c = c.before.before.before.before.before.before.before.before.before.before
 
 -- past the first test m and k are small and the lists even
-known : (c : tie.Else1) → ListsOk (given (start c))
-known c = passed_ok (given (start c)) c.before.before.lists-answer.ensures c.before.accepted.ensures c.if1.false
+known : (c : tie.Else-not-accepted) → ListsOk (given (start c))
+known c = passed_ok (given (start c)) c.before.before.lists_answer-answer.ensures c.before.accepted.ensures c.if-not-accepted.false
 
-returns : tie.Need-returns
+returns : tie.Need-returns-then-not-accepted
 returns c = search refused
 
-returns_2 : tie.Need-returns-2
+returns_2 : tie.Need-returns-then-buffer-from
 returns_2 c = search short
 
-returns_3 : tie.Need-returns-3
+returns_3 : tie.Need-returns
 returns_3 c = search wrote
 
 pub write_spec : {M : Type 1} → statement M

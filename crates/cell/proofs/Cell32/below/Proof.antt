@@ -7,8 +7,8 @@ returns : tie.Need-returns
 returns c =
     let a = c.before.before.before.before.args.self.v in
     let b = c.before.before.before.before.args.o.v in
-    let h : SFits w32 a = fit w32 a c.before.before.struct_told.given.0.1 in
-    let k : SFits w32 b = fit w32 b c.struct-told2.given.0.1 in
+    let h : SFits w32 a = fit w32 a c.before.before.struct_told-1.given.0.1 in
+    let k : SFits w32 b = fit w32 b c.struct_told-2-1.given.0.1 in
     rw (back h, back k) (below_flag room32 a b h k)
 
 pub below_spec : {M : Type 1} → statement M

@@ -3,7 +3,7 @@ use Rattle.cell.proofs.Common.{rules, ◌≡◌, tested, version1, num, cell32, 
 use Rattle.cell.proofs.Cell32.in_reach.Statement.{statement}
 use Rattle.cell.proofs.Cell32.in_reach.Tie as tie
 
-cell : (c : tie.Else1) → cell32 c.before.before.args.self.v ≡ num c.before.before.args.self.v
+cell : (c : tie.Else-is_mark) → cell32 c.before.before.args.self.v ≡ num c.before.before.args.self.v
 cell c = search no_mark
 
 pub in_reach_spec : {M : Type 1} → statement M

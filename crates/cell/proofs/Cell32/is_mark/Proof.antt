@@ -5,7 +5,7 @@ use Rattle.cell.proofs.Cell32.is_mark.Tie as tie
 
 returns : tie.Need-returns
 unfolding version1
-returns c = mark_flag room32 c.before.before.args.self.v (fit w32 c.before.before.args.self.v c.struct_told.given.0.1)
+returns c = mark_flag room32 c.before.before.args.self.v (fit w32 c.before.before.args.self.v c.struct_told-1.given.0.1)
 
 pub is_mark_spec : {M : Type 1} → statement M
 is_mark_spec = tie.close (tie.spec returns)

@@ -3,20 +3,20 @@ use Rattle.cell.proofs.Common.{rules, ◌∙◌, tested, version1, Number, numbe
 use Rattle.cell.proofs.Cell32.lower.Statement.{statement}
 use Rattle.cell.proofs.Cell32.lower.Tie as tie
 
-cell : (c : tie.Else1) → Number version1 c.before.before.args.self.v
+cell : (c : tie.Else-is_mark) → Number version1 c.before.before.args.self.v
 cell c = search number
 
 plus_requires : tie.Need-plus-requires
 plus_requires c κs =
     let s = c.before.before.before.before in
-    rw c.of2.ensures (lower_fits room32 (cell s) s.before.before.requires.1)
+    rw c.of-then-less.ensures (lower_fits room32 (cell s) s.before.before.requires.1)
 
-returns_2 : tie.Need-returns-2
+returns_2 : tie.Need-returns-then-less
 returns_2 c k j e f =
     let l = c.before.before.before in
     let s = l.before.before in
-    let t = tested l.less.ensures c.before.before.if2.true in
-    rw (c.plus.ensures, c.before.of2.ensures) (lower_yes room32 (cell s) s.before.before.requires.1 l.before.of.ensures t k j e f)
+    let t = tested l.less.ensures c.before.before.if-less.true in
+    rw (c.plus.ensures, c.before.of-then-less.ensures) (lower_yes room32 (cell s) s.before.before.requires.1 l.before.of.ensures t k j e f)
 
 pub lower_spec : {M : Type 1} → statement M
 lower_spec =

@@ -4,10 +4,10 @@ use Rattle.cell.proofs.CellMethods.{Sum, sum, join_far}
 use Rattle.cell.proofs.Cell32.onward.Statement.{statement}
 use Rattle.cell.proofs.Cell32.onward.Tie as tie
 
-first : (c : tie.Else1) → Sum version1 c.before.before.args.self.v
+first : (c : tie.Else-is_mark) → Sum version1 c.before.before.args.self.v
 first c = search sum
 
-second : (c : tie.Else2) → Number version1 c.before.before.before.before.args.o.v
+second : (c : tie.Else-is_mark-2) → Number version1 c.before.before.before.before.args.o.v
 second c = search number
 
 pub onward_spec : {M : Type 1} → statement M

@@ -7,5 +7,5 @@ pub smaller_spec : {M : Type 1} → statement M
 smaller_spec =
     tie.close
     (tie.spec (λ c κs. search rules)
-    (λ c. rw (tested c.before.below.ensures c.if1.true))
-    (λ c. rw (tested c.before.below.ensures c.if1.false)))
+    (λ c. rw (tested c.before.below.ensures c.if-below.true))
+    (λ c. rw (tested c.before.below.ensures c.if-below.false)))

@@ -3,14 +3,14 @@ use Rattle.cell.proofs.Common.{rules, version1, Number, number, is_mark_lem, roo
 use Rattle.cell.proofs.Cell32.upper.Statement.{statement}
 use Rattle.cell.proofs.Cell32.upper.Tie as tie
 
-cell : (c : tie.Else1) → Number version1 c.before.before.args.self.v
+cell : (c : tie.Else-is_mark) → Number version1 c.before.before.args.self.v
 cell c = search number
 
-returns_2 : tie.Need-returns-2
+returns_2 : tie.Need-returns
 returns_2 c k e f =
     let n = c.before.before.before in
     let s = n.before.before in
-    rw (c.larger.ensures, n.minus.ensures, n.before.of.ensures, c.before.negated.ensures, c.before.before.of2.ensures)
+    rw (c.larger.ensures, n.minus-after.ensures, n.before.of.ensures, c.before.negated-least.ensures, c.before.before.of-2.ensures)
     (upper_is room32 (cell s) s.before.before.requires.1 s.before.before.requires.2 k e f)
 
 pub upper_spec : {M : Type 1} → statement M
@@ -21,5 +21,5 @@ upper_spec =
     (λ c κs. search rules)
     (λ c κs. rw c.of.ensures (upper_fits room32 (cell c.before) c.before.before.before.requires.2))
     (λ c κs. search rules)
-    (λ c κs. rw c.of2.ensures (negation_fits room32 c.before.before.before.before.before.requires.1))
+    (λ c κs. rw c.of-2.ensures (negation_fits room32 c.before.before.before.before.before.requires.1))
     (λ c κs. search rules) returns_2)

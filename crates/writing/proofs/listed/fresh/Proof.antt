@@ -6,7 +6,7 @@ use Rattle.plan.proofs.RecordTurns.{fresh_next, fresh_stop, fresh_end}
 use Rattle.writing.proofs.listed.fresh.Statement.{statement}
 use Rattle.writing.proofs.listed.fresh.Tie as tie
 
-abbrev invariant_loop : tie.invariant_loop
+abbrev invariant_loop : tie.invariant-loop-j
 invariant_loop act con short long i point j₀ j =
     (j ≤ i) × (fresh point (earlier (link_in act con short long) i) ≡ fresh point (earlier (link_in act con short long) j))
 

@@ -9,4 +9,4 @@ unfolding limit_in
 limit_in_spec =
     tie.close
     (tie.spec (λ c. search rules) (λ c. search rules) (λ c. search rules) (λ c. search rules) (λ c. search rules) (λ c. search rules)
-    (λ c. cc (to_z-of_z w32 _ (sfits_of c.t14.given))))
+    (λ c. cc (to_z-of_z w32 _ (sfits_of c.result-1.given))))

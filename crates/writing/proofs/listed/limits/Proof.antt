@@ -6,19 +6,19 @@ use Rattle.plan.proofs.RecordTurns.{limits_next, limits_stop, limits_end}
 use Rattle.writing.proofs.listed.limits.Statement.{statement}
 use Rattle.writing.proofs.listed.limits.Tie as tie
 
-abbrev invariant_loop : tie.invariant_loop
+abbrev invariant_loop : tie.invariant-loop-i
 invariant_loop n m from to weight i₀ i =
     (i ≤ m)
     × (limits_answer version1 n 0 (records (limit_in from to weight) 0 m) ≡ limits_answer version1 n i (records (limit_in from to weight) i (m - i)))
 
-returns : tie.Need-returns invariant_loop (λ n m from to weight i₀ i. m - i)
+returns : tie.Need-returns-then-not-accepted invariant_loop (λ n m from to weight i₀ i. m - i)
 returns c =
     let answered = c.before.before in
     let read = answered.before in
     let turn = read.before.before in
     let a = turn.before.before.before.args in
-    limits_stop version1 a.n (limit_in a.from.now a.to.now a.weight.now) turn.loop.i a.m turn.loop.invariant.1 (omega arith)
-    read.limit_in_lem.ensures answered.limit-answer.ensures c.before.accepted.ensures c.if1.true
+    limits_stop version1 a.n (limit_in a.from.now a.to.now a.weight.now) turn.loop-i.i a.m turn.loop-i.invariant.1 (omega arith)
+    read.limit_in_lem.ensures answered.limit_answer-a.ensures c.before.accepted.ensures c.if-not-accepted.true
 
 pub limits_spec : {M : Type 1} → statement M
 limits_spec =

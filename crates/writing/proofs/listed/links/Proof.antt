@@ -7,21 +7,21 @@ use Rattle.plan.proofs.RecordTurns.{links_next, links_stop, links_end}
 use Rattle.writing.proofs.listed.links.Statement.{statement}
 use Rattle.writing.proofs.listed.links.Tie as tie
 
-abbrev invariant_loop : tie.invariant_loop
+abbrev invariant_loop : tie.invariant-loop-i
 invariant_loop n m k act con short long i₀ i =
     (i ≤ k)
     × (links_answer version1 n m 0 [] (records (link_in act con short long) 0 k)
     ≡ links_answer version1 n m i (earlier (link_in act con short long) i) (records (link_in act con short long) i (k - i)))
 
-returns : tie.Need-returns invariant_loop (λ n m k act con short long i₀ i. k - i)
+returns : tie.Need-returns-then-not-accepted invariant_loop (λ n m k act con short long i₀ i. k - i)
 returns c =
     let answered = c.before.before in
     let asked = answered.before in
     let read = asked.before in
     let turn = read.before.before in
     let a = turn.before.before.before.before.before.args in
-    links_stop version1 a.n a.m (link_in a.act.now a.con.now a.short.now a.long.now) turn.loop.i a.k turn.loop.invariant.1
-    (omega arith) read.link_in_lem.ensures asked.fresh.ensures answered.link-answer.ensures c.before.accepted.ensures c.if1.true
+    links_stop version1 a.n a.m (link_in a.act.now a.con.now a.short.now a.long.now) turn.loop-i.i a.k turn.loop-i.invariant.1
+    (omega arith) read.link_in_lem.ensures asked.fresh-new.ensures answered.link_answer-a.ensures c.before.accepted.ensures c.if-not-accepted.true
 
 pub links_spec : {M : Type 1} → statement M
 links_spec =

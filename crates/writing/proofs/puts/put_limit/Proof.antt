@@ -8,4 +8,4 @@ pub put_limit_spec : {M : Type 1} → statement M
 put_limit_spec =
     tie.close
     (tie.spec (λ c κs. search rules) (λ c κs. search rules) (λ c. search rules)
-    (λ c. cc (to_z-of_z w32 _ (sfits_of c.before.before.before.before.struct_told.given.1.1.0.1))))
+    (λ c. cc (to_z-of_z w32 _ (sfits_of c.before.before.before.before.struct_told-1.given.1.1.0.1))))

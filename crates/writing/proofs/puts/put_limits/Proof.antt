@@ -6,7 +6,7 @@ use Rattle.writing.proofs.FieldsPut.{RecordsPut, records_none, limit_next, all_p
 use Rattle.writing.proofs.puts.put_limits.Statement.{statement}
 use Rattle.writing.proofs.puts.put_limits.Tie as tie
 
-abbrev invariant_loop : tie.invariant_loop
+abbrev invariant_loop : tie.invariant-loop-i
 invariant_loop buffer₀ m from to weight i₀ buffer i = (i ≤ m) × RecordsPut limit_fields (limit_in from to weight) buffer₀ (limit_offset 0) i buffer
 
 pub put_limits_spec : {M : Type 1} → statement M

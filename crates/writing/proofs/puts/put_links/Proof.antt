@@ -6,14 +6,14 @@ use Rattle.writing.proofs.FieldsPut.{RecordsPut, records_none, link_next, all_pu
 use Rattle.writing.proofs.puts.put_links.Statement.{statement}
 use Rattle.writing.proofs.puts.put_links.Tie as tie
 
-abbrev invariant_loop : tie.invariant_loop
+abbrev invariant_loop : tie.invariant-loop-i
 invariant_loop buffer₀ m k act con short long first i₀ buffer i =
     (i ≤ k) × RecordsPut link_fields (link_in act con short long) buffer₀ (limit_offset m) i buffer
 
-loop_again : tie.Need-loop-preserved invariant_loop (λ buffer₀ m k act con short long first i₀ buffer i. k - i)
+loop_again : tie.Need-loop-i-preserved invariant_loop (λ buffer₀ m k act con short long first i₀ buffer i. k - i)
 loop_again c =
     let read = c.before.before.before in
-    (omega arith, link_next _ _ _ _ read.before.before.before.loop.invariant.1 read.link_in_lem.ensures c.before.before.put-link.ensures)
+    (omega arith, link_next _ _ _ _ read.before.before.before.loop-i.invariant.1 read.link_in_lem.ensures c.before.before.put_link.ensures)
 
 pub put_links_spec : {M : Type 1} → statement M
 put_links_spec =

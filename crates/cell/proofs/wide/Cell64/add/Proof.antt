@@ -4,10 +4,10 @@ use Rattle.cell.proofs.CellMethods.{join}
 use Rattle.cell.proofs.wide.Cell64.add.Statement.{statement}
 use Rattle.cell.proofs.wide.Cell64.add.Tie as tie
 
-first : (c : tie.Else1) → Number roomy c.before.before.args.self.v
+first : (c : tie.Else-is_mark) → Number roomy c.before.before.args.self.v
 first c = search number
 
-second : (c : tie.Else2) → Number roomy c.before.before.before.before.args.o.v
+second : (c : tie.Else-is_mark-2) → Number roomy c.before.before.before.before.args.o.v
 second c = search number
 
 pub add_spec : {M : Type 1} → statement M

@@ -3,7 +3,7 @@ use Rattle.cell.proofs.Common.{rules, arith, adding, cell64, Number, number, is_
 use Rattle.cell.proofs.wide.Cell64.height.Statement.{statement}
 use Rattle.cell.proofs.wide.Cell64.height.Tie as tie
 
-cell : (c : tie.Else1) → Number adding c.before.before.args.self.v
+cell : (c : tie.Else-is_mark) → Number adding c.before.before.args.self.v
 cell c = search number
 
 pub height_spec : {M : Type 1} → statement M
@@ -13,5 +13,5 @@ height_spec =
     (tie.spec (λ c κs. search rules)
     (λ c. search (height_mark adding.reach (cell64 c.before.before.args.self.v), is_mark_lem))
     (λ c κs. height_fits room64 (cell c))
-    (λ c. height_casts room64 (cell c.before.before.before) (omega arith) c.before.before.plus.ensures)
+    (λ c. height_casts room64 (cell c.before.before.before) (omega arith) c.before.before.plus-above.ensures)
     (λ c. search (height_is, room64, cell c.before.before.before)))

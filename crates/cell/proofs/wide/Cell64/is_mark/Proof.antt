@@ -5,7 +5,7 @@ use Rattle.cell.proofs.wide.Cell64.is_mark.Tie as tie
 
 returns : tie.Need-returns
 unfolding adding
-returns c = mark_flag room64 c.before.before.args.self.v (fit w64 c.before.before.args.self.v c.struct_told.given.0.1)
+returns c = mark_flag room64 c.before.before.args.self.v (fit w64 c.before.before.args.self.v c.struct_told-1.given.0.1)
 
 pub is_mark_spec : {M : Type 1} → statement M
 is_mark_spec = tie.close (tie.spec returns)

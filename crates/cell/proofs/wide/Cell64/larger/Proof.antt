@@ -8,5 +8,5 @@ unfolding larger
 larger_spec =
     tie.close
     (tie.spec (λ c κs. search rules)
-    (λ c. rw (tested c.before.less.ensures c.if1.true))
-    (λ c. rw (tested c.before.less.ensures c.if1.false)))
+    (λ c. rw (tested c.before.less.ensures c.if-less.true))
+    (λ c. rw (tested c.before.less.ensures c.if-less.false)))
