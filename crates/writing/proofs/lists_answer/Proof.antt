@@ -28,7 +28,7 @@ returns_2 c =
     limits_refused (given (start past)) past.before.before.before.even-laid.ensures past.before.before.counts_answer-a.ensures
     past.before.accepted.ensures past.if-not-accepted.false c.before.before.limits-b.ensures c.before.accepted-2.ensures c.if-not-accepted-2.true
 
-returns_3 : tie.Need-returns
+returns_3 : tie.Need-returns-then-not-accepted
 returns_3 c =
     let past = c.before.before.before.before in
     links_answer_lem (given (start past)) past.before.before.before.even-laid.ensures past.before.before.counts_answer-a.ensures

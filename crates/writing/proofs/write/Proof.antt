@@ -26,7 +26,7 @@ returns c = search refused
 returns_2 : tie.Need-returns-then-buffer-from
 returns_2 c = search short
 
-returns_3 : tie.Need-returns
+returns_3 : tie.Need-returns-then-not-accepted
 returns_3 c = search wrote
 
 pub write_spec : {M : Type 1} → statement M

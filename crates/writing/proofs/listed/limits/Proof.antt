@@ -18,7 +18,7 @@ returns c =
     let turn = read.before.before in
     let a = turn.before.before.before.args in
     limits_stop version1 a.n (limit_in a.from.now a.to.now a.weight.now) turn.loop-i.i a.m turn.loop-i.invariant.1 (omega arith)
-    read.limit_in_lem.ensures answered.limit_answer-a.ensures c.before.accepted.ensures c.if-not-accepted.true
+    read.limit_in.ensures answered.limit_answer-a.ensures c.before.accepted.ensures c.if-not-accepted.true
 
 pub limits_spec : {M : Type 1} → statement M
 limits_spec =

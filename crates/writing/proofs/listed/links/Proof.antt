@@ -21,7 +21,7 @@ returns c =
     let turn = read.before.before in
     let a = turn.before.before.before.before.before.args in
     links_stop version1 a.n a.m (link_in a.act.now a.con.now a.short.now a.long.now) turn.loop-i.i a.k turn.loop-i.invariant.1
-    (omega arith) read.link_in_lem.ensures asked.fresh-new.ensures answered.link_answer-a.ensures c.before.accepted.ensures c.if-not-accepted.true
+    (omega arith) read.link_in-link.ensures asked.fresh-new.ensures answered.link_answer-a.ensures c.before.accepted.ensures c.if-not-accepted.true
 
 pub links_spec : {M : Type 1} → statement M
 links_spec =

@@ -13,7 +13,7 @@ invariant_loop buffer₀ m k act con short long first i₀ buffer i =
 loop_again : tie.Need-loop-i-preserved invariant_loop (λ buffer₀ m k act con short long first i₀ buffer i. k - i)
 loop_again c =
     let read = c.before.before.before in
-    (omega arith, link_next _ _ _ _ read.before.before.before.loop-i.invariant.1 read.link_in_lem.ensures c.before.before.put_link.ensures)
+    (omega arith, link_next _ _ _ _ read.before.before.before.loop-i.invariant.1 read.link_in.ensures c.before.before.put_link.ensures)
 
 pub put_links_spec : {M : Type 1} → statement M
 put_links_spec =
