@@ -130,8 +130,8 @@ way {p} {k} {x} i (more {y} {z} e hy t) =
 as_path : {p : Plan} {k x a y z : ℕ} {w t : ℤ} {ps : List ℕ} → Given p a y w → (Memᴰ x (y ∷ ps) → ⊥)
     → Trail (Via p k x) y z t ps → Some p k a z (suc (length ps))
 as_path e away stop = some (edge e)
-as_path e away (go (via i f) t) =
-    some (more e (⊎_elim (λ j. absurd (away (Memᴰ.head (sym j)))) (λ j. j) i) (as_path f (λ m. away (Memᴰ.tail m)) t).path)
+as_path {a = a} e away (go {x = x'} (via i f) t) =
+    some (more e (⊎_elim (λ j. absurd (away (Memᴰ.head (sym j)))) (λ j. j) i) (as_path {a = x'} f (λ m. away (Memᴰ.tail m)) t).path)
 
 -- two points joined by fewer than n edges over points below k
 record Brief (p : Plan) (k x z : ℕ) : Type 0 where
