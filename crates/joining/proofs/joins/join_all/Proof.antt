@@ -4,7 +4,7 @@ use Rattle.lowering.proofs.Common.{rules}
 use Rattle.joining.proofs.joins.join_all.Statement.{statement}
 use Rattle.joining.proofs.joins.join_all.Tie as tie
 
-abbrev invariant_loop : tie.invariant_loop
+abbrev invariant_loop : tie.invariant-loop-y
 invariant_loop t₀ n y₀ t y = Turns version1 n n (join_middle version1 n) y t₀ t
 
 pub join_all_spec : {M : Type 1} → statement M

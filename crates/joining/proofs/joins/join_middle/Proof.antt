@@ -3,11 +3,11 @@ use Rattle.lowering.proofs.Common.{rules, version1, version1_coherent, join_midd
 use Rattle.joining.proofs.joins.join_middle.Statement.{statement}
 use Rattle.joining.proofs.joins.join_middle.Tie as tie
 
-join_rows_requires_2 : tie.Need-join-rows-requires-2
+join_rows_requires_2 : tie.Need-join_rows-requires-2
 join_rows_requires_2 c κs =
     let s = c.before.before.before.before.before.before.before in
-    let rows = c.before.before.before.before.before.join-rows in
-    let row = c.before.before.join-row in
+    let rows = c.before.before.before.before.before.join_rows in
+    let row = c.before.before.join_row in
     search (here_sound (row_lowers version1 version1_coherent _ _) s.requires.0 s.requires.2 rows.ensures row.ensures, rules)
 
 pub join_middle_spec : {M : Type 1} → statement M

@@ -3,7 +3,7 @@ use Rattle.lowering.proofs.Common.{rules, ◌-◌, version1, version1_coherent, 
 use Rattle.joining.proofs.joins.join_rows.Statement.{statement}
 use Rattle.joining.proofs.joins.join_rows.Tie as tie
 
-abbrev invariant_loop : tie.invariant_loop
+abbrev invariant_loop : tie.invariant-loop-x
 invariant_loop t₀ n y first last x₀ t x = Stretch version1 n (join_row version1 n y) first last x t₀ t
 
 pub join_rows_spec : {M : Type 1} → statement M

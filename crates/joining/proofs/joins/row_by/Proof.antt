@@ -4,7 +4,7 @@ use Rattle.lowering.proofs.Common.{read_stored, join_cell_is, cell_lowers}
 use Rattle.joining.proofs.joins.row_by.Statement.{statement}
 use Rattle.joining.proofs.joins.row_by.Tie as tie
 
-abbrev invariant_loop : tie.invariant_loop
+abbrev invariant_loop : tie.invariant-loop-z
 invariant_loop t₀ n y x a z₀ t z = Turns version1 n n (join_cell version1 n y x (cell32 a.v)) z t₀ t
 
 pub row_by_spec : {M : Type 1} → statement M

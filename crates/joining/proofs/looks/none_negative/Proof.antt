@@ -4,7 +4,7 @@ use Rattle.lowering.proofs.Common.{passed_all}
 use Rattle.joining.proofs.looks.none_negative.Statement.{statement}
 use Rattle.joining.proofs.looks.none_negative.Tie as tie
 
-abbrev invariant_loop : tie.invariant_loop
+abbrev invariant_loop : tie.invariant-loop-x
 invariant_loop t n x₀ x = Passed n (NotNegative version1 n t) x
 
 pub none_negative_spec : {M : Type 1} → statement M
@@ -15,4 +15,4 @@ none_negative_spec =
     (λ c. search (negative_failed, span_cell, rules))
     (λ c. search rules) (λ c. search rules)
     (λ c. search (negative_more, span_cell, rules))
-    (λ c. looked_yes (passed_all c.before.loop.invariant (omega arith))))
+    (λ c. looked_yes (passed_all c.before.loop-x.invariant (omega arith))))

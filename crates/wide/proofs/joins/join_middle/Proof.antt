@@ -4,7 +4,7 @@ use Rattle.wide.proofs.AddStart.{adding_coherent}
 use Rattle.wide.proofs.joins.join_middle.Statement.{statement}
 use Rattle.wide.proofs.joins.join_middle.Tie as tie
 
-abbrev invariant_loop : tie.invariant_loop
+abbrev invariant_loop : tie.invariant-loop-x
 invariant_loop t₀ n y x₀ t x = Turns adding n n (join_row adding n y) x t₀ t
 
 pub join_middle_spec : {M : Type 1} → statement M

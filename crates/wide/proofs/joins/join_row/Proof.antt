@@ -6,7 +6,7 @@ use Rattle.wide.proofs.AddStart.{adding_coherent}
 use Rattle.wide.proofs.joins.join_row.Statement.{statement}
 use Rattle.wide.proofs.joins.join_row.Tie as tie
 
-abbrev invariant_loop : tie.invariant_loop
+abbrev invariant_loop : tie.invariant-loop-z
 invariant_loop t₀ n y x a z₀ t z = Turns adding n n (join_cell adding n y x (cell64 a.v)) z t₀ t
 
 pub join_row_spec : {M : Type 1} → statement M
@@ -15,7 +15,7 @@ join_row_spec =
     (tie.spec invariant_loop (λ t₀ n y x a z₀ t z. n - z)
     (λ c κs. search rules) (λ c κs. search rules) (λ c. search rules)
     (λ c. search (row_at_mark, mark-read, rules))
-    (λ c. turns_none c.before.before.before.before.requires.3)
+    (λ c. turns_none c.requires.3)
     (λ c κs. search rules)
     (λ c κs. search (stored_roomy, read_stored, rules))
     (λ c κs. search rules) (λ c. search rules) (λ c. search rules)

@@ -7,19 +7,19 @@ use Rattle.lowering.proofs.Laws.LinksAsRead.{pair_at}
 use Rattle.wide.proofs.lowers.lower_link.Statement.{statement}
 use Rattle.wide.proofs.lowers.lower_link.Tie as tie
 
-abbrev invariant_loop : tie.invariant_loop
+abbrev invariant_loop : tie.invariant-loop-j
 invariant_loop file n m k t₀ i a j₀ t j = Turns adding n k (λ j. lower_pair adding n (link_at file m i) (link_at file m j)) j t₀ t
 
-abbrev decreases_loop : tie.decreases_loop
+abbrev decreases_loop : tie.decreases-loop-j
 decreases_loop file n m k t₀ i a j₀ t j = k - j
 
-loop_again : tie.Need-loop-preserved invariant_loop decreases_loop
+loop_again : tie.Need-loop-j-preserved invariant_loop decreases_loop
 loop_again c =
-    let s = c.before.before.before.before.before.before.before.before in
-    let loop = c.before.before.before.before.before.loop in
+    let s = c in
+    let loop = c.loop-j in
     turns_more (pair_lowers adding adding_coherent _ _ _ (link_points s.requires.1) _ s.requires.0) loop.invariant (omega arith)
-    (pair_at adding s.args.n loop.t c.before.before.before.before.before.before.link_of.ensures
-    c.before.before.before.link-of2.ensures c.before.lower-pair.ensures)
+    (pair_at adding s.args.n loop.t c.link_of-a.ensures
+    c.link_of-b.ensures c.lower_pair.ensures)
 
 pub lower_link_spec : {M : Type 1} → statement M
 unfolding lower_link

@@ -6,10 +6,10 @@ use Rattle.wide.proofs.AddStart.{weights_held}
 use Rattle.wide.proofs.lowers.lower_pair.Statement.{statement}
 use Rattle.wide.proofs.lowers.lower_pair.Tie as tie
 
-returns_2 : tie.Need-returns-2
+returns_2 : tie.Need-returns
 returns_2 c =
-    let b = link_of c.before.before.before.before.before.before.before.before.before.before.before.before.before.args.b in
-    search (pair_is, c.before.before.lower.ensures, spread_is b (omega arith))
+    let b = link_of c.args.b in
+    search (pair_is, c.lower.ensures, spread_is b (omega arith))
 
 pub lower_pair_spec : {M : Type 1} → statement M
 lower_pair_spec =

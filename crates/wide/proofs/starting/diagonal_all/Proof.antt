@@ -6,7 +6,7 @@ use Rattle.wide.proofs.WideCells.{span_cell}
 use Rattle.wide.proofs.starting.diagonal_all.Statement.{statement}
 use Rattle.wide.proofs.starting.diagonal_all.Tie as tie
 
-abbrev invariant_loop : tie.invariant_loop
+abbrev invariant_loop : tie.invariant-loop-x
 invariant_loop t₀ n x₀ t x = Turns adding n n (λ x. lower_cell adding n x x (num (pos 0))) x t₀ t
 
 pub diagonal_all_spec : {M : Type 1} → statement M

@@ -3,16 +3,16 @@ use Rattle.lowering.proofs.Common.{rules, ◌≡◌, ◌-◌, pos, arith, adding
 use Rattle.wide.proofs.starting.mark_all.Statement.{statement}
 use Rattle.wide.proofs.starting.mark_all.Tie as tie
 
-abbrev invariant_loop : tie.invariant_loop
+abbrev invariant_loop : tie.invariant-loop-i
 invariant_loop t₀ count none i₀ t i = Writing count (λ j v. v ≡ pos adding.mark) i t₀ t
 
-abbrev decreases_loop : tie.decreases_loop
+abbrev decreases_loop : tie.decreases-loop-i
 decreases_loop t₀ count none i₀ t i = count - i
 
-loop_again : tie.Need-loop-preserved invariant_loop decreases_loop
+loop_again : tie.Need-loop-i-preserved invariant_loop decreases_loop
 unfolding adding
 loop_again c =
-    let e : c.before.before.before.mark.result.v ≡ pos adding.mark = number_of_lem adding.mark c.before.before.before.mark.ensures in
+    let e : c.before.before.before.mark-none.result.v ≡ pos adding.mark = number_of_lem adding.mark c.before.before.before.mark-none.ensures in
     search (writing_more, e, rules)
 
 pub mark_all_spec : {M : Type 1} → statement M
@@ -21,4 +21,4 @@ mark_all_spec =
     (tie.spec invariant_loop decreases_loop
     (λ c κs. search rules) (λ c. writing_none) (λ c. search rules) (λ c. search rules) (λ c. search rules)
     (λ c. search rules) loop_again (λ c. search rules)
-    (λ c. all_marked adding c.before.loop.invariant (omega arith) (search rules)))
+    (λ c. all_marked adding c.before.loop-i.invariant (omega arith) (search rules)))

@@ -5,16 +5,16 @@ use Rattle.wide.proofs.WideCells.{sound_joins, sound_lower}
 use Rattle.wide.proofs.sweep.sweep_strict.Statement.{statement}
 use Rattle.wide.proofs.sweep.sweep_strict.Tie as tie
 
-upper_all_requires : tie.Need-upper-all-requires
+upper_all_requires : tie.Need-upper_all-requires
 upper_all_requires c κs =
     let s = c.before.before.before.before.before.before.before.before in
-    (s.requires.0, sound_lower s.requires.0 (search sound_joins) c.before.before.lower-all.ensures)
+    (s.requires.0, sound_lower s.requires.0 (search sound_joins) c.before.before.lower_all.ensures)
 
 returns : tie.Need-returns
 unfolding sweep_strict
 returns c =
     let lower = c.before.before.before.before in
-    rw (c.before.upper-all.ensures, lower.lower-all.ensures, lower.before.before.before.join-all.ensures)
+    rw (c.before.upper_all.ensures, lower.lower_all.ensures, lower.before.before.before.join_all.ensures)
 
 pub sweep_strict_spec : {M : Type 1} → statement M
 sweep_strict_spec =

@@ -5,7 +5,7 @@ use Rattle.lowering.proofs.Theory.SweepSteps.{upper_point_lowers}
 use Rattle.wide.proofs.uppers.upper_all.Statement.{statement}
 use Rattle.wide.proofs.uppers.upper_all.Tie as tie
 
-abbrev invariant_loop : tie.invariant_loop
+abbrev invariant_loop : tie.invariant-loop-x
 invariant_loop file n m k t₀ x₀ t x = Turns adding n n (upper_point adding n (link_at file m) k) x t₀ t
 
 pub upper_all_spec : {M : Type 1} → statement M

@@ -6,18 +6,18 @@ use Rattle.lowering.proofs.Theory.SweepSteps.{upper_cell_lowers}
 use Rattle.wide.proofs.uppers.upper_point.Statement.{statement}
 use Rattle.wide.proofs.uppers.upper_point.Tie as tie
 
-abbrev invariant_loop : tie.invariant_loop
+abbrev invariant_loop : tie.invariant-loop-i
 invariant_loop file n m k t₀ x i₀ t i = Turns adding n k (λ i. upper_cell adding n x (link_at file m i)) i t₀ t
 
-abbrev decreases_loop : tie.decreases_loop
+abbrev decreases_loop : tie.decreases-loop-i
 decreases_loop file n m k t₀ x i₀ t i = k - i
 
-loop_again : tie.Need-loop-preserved invariant_loop decreases_loop
+loop_again : tie.Need-loop-i-preserved invariant_loop decreases_loop
 loop_again c =
-    let s = c.before.before.before.before.before.before.before in
-    let loop = c.before.before.before.before.before.loop in
+    let s = c in
+    let loop = c.loop-i in
     turns_more (upper_cell_lowers adding adding_coherent _ _ _ (link_points s.requires.1) _ s.requires.0) loop.invariant (omega arith)
-    (at_read (λ a. upper_cell adding s.args.n s.args.x a loop.t) c.before.before.before.link_of.ensures c.before.upper_cell_lem.ensures)
+    (at_read (λ a. upper_cell adding s.args.n s.args.x a loop.t) c.link_of-a.ensures c.upper_cell.ensures)
 
 pub upper_point_spec : {M : Type 1} → statement M
 unfolding upper_point
