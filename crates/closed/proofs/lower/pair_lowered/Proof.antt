@@ -4,10 +4,10 @@ use Rattle.closed.proofs.EdgeTests.{lower_itself, lower_decides}
 use Rattle.closed.proofs.lower.pair_lowered.Statement.{statement}
 use Rattle.closed.proofs.lower.pair_lowered.Tie as tie
 
-returns : tie.Need-returns
+returns : tie.Need-returns-then-other-link
 returns c =
     let a = c.before.before.before.args in
-    lower_itself (table_of version1 a.n a.t.now) (link_of a.link) (link_of a.other) c.if1.true
+    lower_itself (table_of version1 a.n a.t.now) (link_of a.link) (link_of a.other) c.if-other-link.true
 
 pub pair_lowered_spec : {M : Type 1} → statement M
 pair_lowered_spec =

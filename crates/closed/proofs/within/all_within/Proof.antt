@@ -4,7 +4,7 @@ use Rattle.closed.specs.Parts.{RowWithin}
 use Rattle.closed.proofs.within.all_within.Statement.{statement}
 use Rattle.closed.proofs.within.all_within.Tie as tie
 
-abbrev invariant_loop : tie.invariant_loop
+abbrev invariant_loop : tie.invariant-loop-x
 invariant_loop t n x₀ x = Passed n (RowWithin version1.reach n (table_of version1 n t)) x
 
 pub all_within_spec : {M : Type 1} → statement M
@@ -12,7 +12,7 @@ all_within_spec =
     tie.close
     (tie.spec invariant_loop (λ t n x₀ x. n - x)
     (λ c. none_yet) (λ c κs. search rules)
-    (λ c. search (one_failed c.before.before.before.loop.invariant, rules))
+    (λ c. search (one_failed c.before.before.before.loop-x.invariant, rules))
     (λ c. search rules) (λ c. search rules)
     (λ c. search (one_more, rules))
-    (λ c. all_passed c.before.loop.invariant (omega arith)))
+    (λ c. all_passed c.before.loop-x.invariant (omega arith)))

@@ -4,17 +4,17 @@ use Rattle.closed.proofs.CellTests.{not_same, same}
 use Rattle.closed.proofs.within.cell_zero.Statement.{statement}
 use Rattle.closed.proofs.within.cell_zero.Tie as tie
 
-returns : tie.Need-returns
+returns : tie.Need-returns-then-not-under
 returns c =
-    let none = c.before.before.of in
-    rw (← read_cell version1 _ _ _ _ _ c.before.before.before.get.ensures)
-    (not_same _ _ (span_cell (omega arith) none.ensures) c.before.under.ensures c.if1.true)
+    let none = c.before.before.of-zero in
+    rw (← read_cell version1 _ _ _ _ _ c.before.before.before.get-c.ensures)
+    (not_same _ _ (span_cell (omega arith) none.ensures) c.before.under.ensures c.if-not-under.true)
 
-returns_2 : tie.Need-returns-2
+returns_2 : tie.Need-returns
 returns_2 c =
-    let none = c.before.before.before.of in
-    rw (← read_cell version1 _ _ _ _ _ c.before.before.before.before.get.ensures)
-    (same _ _ (span_cell (omega arith) none.ensures) c.before.before.under.ensures c.before.if1.false c.under2.ensures)
+    let none = c.before.before.before.of-zero in
+    rw (← read_cell version1 _ _ _ _ _ c.before.before.before.before.get-c.ensures)
+    (same _ _ (span_cell (omega arith) none.ensures) c.before.before.under.ensures c.before.if-not-under.false c.under-2.ensures)
 
 pub cell_zero_spec : {M : Type 1} → statement M
 cell_zero_spec =

@@ -4,7 +4,7 @@ use Rattle.lowering.proofs.Common.{span_cell, Turns, turns_none, turns_more, tur
 use Rattle.first.proofs.starting.diagonal_all.Statement.{statement}
 use Rattle.first.proofs.starting.diagonal_all.Tie as tie
 
-abbrev invariant_loop : tie.invariant_loop
+abbrev invariant_loop : tie.invariant-loop-x
 invariant_loop t₀ n x₀ t x = Turns version1 n n (λ x. lower_cell version1 n x x (num (pos 0))) x t₀ t
 
 pub diagonal_all_spec : {M : Type 1} → statement M

@@ -5,27 +5,27 @@ use Rattle.lowering.proofs.Laws.StillStored.{sound_marks, sound_diagonal, sound_
 use Rattle.first.proofs.starting.first_strict.Statement.{statement}
 use Rattle.first.proofs.starting.first_strict.Tie as tie
 
-limit_all_requires : tie.Need-limit-all-requires
+limit_all_requires : tie.Need-limit_all-requires
 limit_all_requires c κs =
     let s = c.before.before.before.before.before.before.before.before in
-    let marks = sound_marks s.args.t.now s.requires.1 c.before.before.before.before.before.mark-all.ensures in
-    (s.requires.0, sound_diagonal marks c.before.before.diagonal-all.ensures)
+    let marks = sound_marks s.args.t-1.now s.requires.1 c.before.before.before.before.before.mark_all.ensures in
+    (s.requires.0, sound_diagonal marks c.before.before.diagonal_all.ensures)
 
-start_all_requires : tie.Need-start-all-requires
+start_all_requires : tie.Need-start_all-requires
 start_all_requires c κs =
     let s = c.before.before.before.before.before.before.before.before.before.before.before in
-    let marks = sound_marks s.args.t.now s.requires.1 c.before.before.before.before.before.before.before.before.mark-all.ensures in
-    let diagonal = sound_diagonal marks c.before.before.before.before.before.diagonal-all.ensures in
-    (few s.requires.0, sound_limits s.requires.0 diagonal c.before.before.limit-all.ensures)
+    let marks = sound_marks s.args.t-1.now s.requires.1 c.before.before.before.before.before.before.before.before.mark_all.ensures in
+    let diagonal = sound_diagonal marks c.before.before.before.before.before.diagonal_all.ensures in
+    (few s.requires.0, sound_limits s.requires.0 diagonal c.before.before.limit_all.ensures)
 
-link_all_requires : tie.Need-link-all-requires
+link_all_requires : tie.Need-link_all-requires
 link_all_requires c κs =
     let s = c.before.before.before.before.before.before.before.before.before.before.before.before.before.before in
     let first = c.before.before.before.before.before.before.before.before in
-    let marks = sound_marks s.args.t.now s.requires.1 first.before.before.before.mark-all.ensures in
-    let diagonal = sound_diagonal marks first.diagonal-all.ensures in
-    let limits = sound_limits s.requires.0 diagonal c.before.before.before.before.before.limit-all.ensures in
-    (s.requires.0, sound_starts limits c.before.before.start-all.ensures)
+    let marks = sound_marks s.args.t-1.now s.requires.1 first.before.before.before.mark_all.ensures in
+    let diagonal = sound_diagonal marks first.diagonal_all.ensures in
+    let limits = sound_limits s.requires.0 diagonal c.before.before.before.before.before.limit_all.ensures in
+    (s.requires.0, sound_starts limits c.before.before.start_all.ensures)
 
 pub first_strict_spec : {M : Type 1} → statement M
 unfolding first_strict

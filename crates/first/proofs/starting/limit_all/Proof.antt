@@ -5,7 +5,7 @@ use Rattle.lowering.proofs.Laws.StillStored.{limit_cells_lower}
 use Rattle.first.proofs.starting.limit_all.Statement.{statement}
 use Rattle.first.proofs.starting.limit_all.Tie as tie
 
-abbrev invariant_loop : tie.invariant_loop
+abbrev invariant_loop : tie.invariant-loop-i
 invariant_loop file n m k t₀ i₀ t i = Turns version1 n m (λ i. limit_cell version1 n (limit_at file i)) i t₀ t
 
 pub limit_all_spec : {M : Type 1} → statement M
@@ -17,6 +17,6 @@ limit_all_spec =
     (λ c κs. search rules)
     (λ c κs. search (few, limit_read, rules))
     (λ c. search rules) (λ c. search rules)
-    (λ c. search (turns_more, limit_cells_lower, ← c.before.before.before.limit-of.ensures, rules))
+    (λ c. search (turns_more, limit_cells_lower, ← c.before.before.before.limit_of-l.ensures, rules))
     (λ c. search rules)
     (λ c. search (turns_all, rules)))

@@ -5,7 +5,7 @@ use Rattle.lowering.proofs.Laws.StillStored.{link_edges_lower}
 use Rattle.first.proofs.starting.link_all.Statement.{statement}
 use Rattle.first.proofs.starting.link_all.Tie as tie
 
-abbrev invariant_loop : tie.invariant_loop
+abbrev invariant_loop : tie.invariant-loop-i
 invariant_loop file n m k t₀ i₀ t i = Turns version1 n k (λ i. link_edges version1 n (link_at file m i)) i t₀ t
 
 pub link_all_spec : {M : Type 1} → statement M
@@ -17,6 +17,6 @@ link_all_spec =
     (λ c κs. search rules)
     (λ c κs. search (few, link_read, rules))
     (λ c. search rules) (λ c. search rules)
-    (λ c. search (turns_more, link_edges_lower, ← c.before.before.before.link_of.ensures, rules))
+    (λ c. search (turns_more, link_edges_lower, ← c.before.before.before.link_of-a.ensures, rules))
     (λ c. search rules)
     (λ c. search (turns_all, rules)))

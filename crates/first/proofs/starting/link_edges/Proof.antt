@@ -8,12 +8,12 @@ returns : tie.Need-returns
 returns c =
     let s = c.before.before.before.before.before.before.before.before.before.before.before in
     search
-    (edges_are, span_cell, minus_cell s.requires.1 c.before.before.before.of2.ensures c.before.before.negated.ensures, rules)
+    (edges_are, span_cell, minus_cell s.requires.1 c.before.before.before.of-2.ensures c.before.before.negated.ensures, rules)
 
 pub link_edges_spec : {M : Type 1} → statement M
 link_edges_spec =
     tie.close
     (tie.spec (λ c. search rules) (λ c. search rules) (λ c κs. search rules) (λ c κs. search rules)
     (λ c κs. search rules)
-    (λ c κs. minus_fits c.before.before.before.before.before.before.before.before.requires.1 c.of2.ensures)
+    (λ c κs. minus_fits c.before.before.before.before.before.before.before.before.requires.1 c.of-2.ensures)
     (λ c κs. search rules) (λ c. search rules) returns)

@@ -5,16 +5,16 @@ use Rattle.lowering.proofs.Theory.SweepSteps.{start_lowers}
 use Rattle.first.proofs.starting.start_all.Statement.{statement}
 use Rattle.first.proofs.starting.start_all.Tie as tie
 
-abbrev invariant_loop : tie.invariant_loop
+abbrev invariant_loop : tie.invariant-loop-x
 invariant_loop t₀ n x₀ t x = Turns version1 n n (λ x. lower_cell version1 n x 0 (num (pos 0))) x t₀ t
 
-abbrev decreases_loop : tie.decreases_loop
+abbrev decreases_loop : tie.decreases-loop-x
 decreases_loop t₀ n x₀ t x = n - x
 
-loop_again : tie.Need-loop-preserved invariant_loop decreases_loop
+loop_again : tie.Need-loop-x-preserved invariant_loop decreases_loop
 loop_again c =
-    turns_more (start_lowers version1 version1_coherent _) c.before.before.before.before.before.loop.invariant (omega arith)
-    (lowering_by version1 _ _ 0 _ _ c.before.before.of.result.v (span_cell (omega arith) c.before.before.of.ensures) c.before.lower_cell_lem.ensures)
+    turns_more (start_lowers version1 version1_coherent _) c.before.before.before.before.before.loop-x.invariant (omega arith)
+    (lowering_by version1 _ _ 0 _ _ c.before.before.of.result.v (span_cell (omega arith) c.before.before.of.ensures) c.before.lower_cell.ensures)
 
 pub start_all_spec : {M : Type 1} → statement M
 unfolding start_all

@@ -3,7 +3,7 @@ use Rattle.lowering.proofs.Common.{rules, arith, ◌-◌, ◌≡◌, sym, get_or
 use Rattle.scratch.proofs.copies.narrow.Statement.{statement}
 use Rattle.scratch.proofs.copies.narrow.Tie as tie
 
-abbrev invariant_loop : tie.invariant_loop
+abbrev invariant_loop : tie.invariant-loop-i
 invariant_loop t table₀ count i₀ table i = Writing count (λ j v. cell64 (get_or t j (pos 0)) ≡ cell32 v) i table₀ table
 
 pub narrow_spec : {M : Type 1} → statement M
@@ -11,8 +11,8 @@ narrow_spec =
     tie.close
     (tie.spec invariant_loop (λ t table₀ count i₀ table i. count - i)
     (λ c. writing_none) (λ c κs. search rules)
-    (λ c κs. search (c.Cell-at.ensures, c.before.before.before.before.requires.2, rules))
+    (λ c κs. search (c.cell_at.ensures, c.before.before.before.before.requires.2, rules))
     (λ c κs. search rules) (λ c. search rules) (λ c. search rules)
-    (λ c. search (writing_more, sym c.before.before.narrowed.ensures, ← c.before.before.before.Cell-at.ensures, rules))
+    (λ c. search (writing_more, sym c.before.before.narrowed.ensures, ← c.before.before.before.cell_at.ensures, rules))
     (λ c. search rules)
-    (λ c. search (writing_all c.before.loop.invariant (omega arith))))
+    (λ c. search (writing_all c.before.loop-i.invariant (omega arith))))

@@ -3,7 +3,7 @@ use Rattle.lowering.proofs.Common.{rules, arith, ◌-◌, ◌≡◌, ap, ◌∙�
 use Rattle.scratch.proofs.copies.widen.Statement.{statement}
 use Rattle.scratch.proofs.copies.widen.Tie as tie
 
-abbrev invariant_loop : tie.invariant_loop
+abbrev invariant_loop : tie.invariant-loop-i
 invariant_loop table t₀ count i₀ t i = Writing count (λ j v. cell64 v ≡ cell32 (get_or table j (pos 0))) i t₀ t
 
 pub widen_spec : {M : Type 1} → statement M
@@ -14,4 +14,4 @@ widen_spec =
     (λ c. search rules)
     (λ c. search (writing_more, c.before.before.widened.ensures ∙ ap cell32 c.before.before.before.read.ensures, rules))
     (λ c. search rules)
-    (λ c. search (writing_all c.before.loop.invariant (omega arith))))
+    (λ c. search (writing_all c.before.loop-i.invariant (omega arith))))

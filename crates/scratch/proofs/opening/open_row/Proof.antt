@@ -9,7 +9,7 @@ use Rattle.scratch.proofs.ScratchParts.{half_room, part_read, Opening, opening_n
 use Rattle.scratch.proofs.opening.open_row.Statement.{statement}
 use Rattle.scratch.proofs.opening.open_row.Tie as tie
 
-abbrev invariant_loop : tie.invariant_loop
+abbrev invariant_loop : tie.invariant-loop-y
 invariant_loop t₀ n x y₀ t y = Opening adding n n (open_cell adding n (strict_part n t₀) x) y t₀ t
 
 pub open_row_spec : {M : Type 1} → statement M

@@ -8,15 +8,15 @@ use Rattle.scratch.proofs.ScratchParts.{Opening, opening_none, opening_more, ope
 use Rattle.scratch.proofs.opening.open_under.Statement.{statement}
 use Rattle.scratch.proofs.opening.open_under.Tie as tie
 
-abbrev invariant_loop : tie.invariant_loop
+abbrev invariant_loop : tie.invariant-loop-x
 invariant_loop t₀ n x₀ t x = Opening adding n n (open_row adding n (strict_part n t₀)) x t₀ t
 
-abbrev decreases_loop : tie.decreases_loop
+abbrev decreases_loop : tie.decreases-loop-x
 decreases_loop t₀ n x₀ t x = n - x
 
-loop_again : tie.Need-loop-preserved invariant_loop decreases_loop
+loop_again : tie.Need-loop-x-preserved invariant_loop decreases_loop
 loop_again c =
-    search (opening_more, open_row_lowers adding adding_coherent, ← c.before.before.before.before.loop.invariant.strict_same, rules)
+    search (opening_more, open_row_lowers adding adding_coherent, ← c.before.before.before.before.loop-x.invariant.strict_same, rules)
 
 pub open_under_spec : {M : Type 1} → statement M
 unfolding open_all

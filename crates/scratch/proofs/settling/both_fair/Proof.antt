@@ -4,10 +4,10 @@ use Rattle.scratch.proofs.ScratchParts.{half_room, front_length, rest}
 use Rattle.scratch.proofs.settling.both_fair.Statement.{statement}
 use Rattle.scratch.proofs.settling.both_fair.Tie as tie
 
-returns_2 : tie.Need-returns-2
+returns_2 : tie.Need-returns
 returns_2 c =
-    looked_also (c.before.before.before.fair.ensures.holds (c.before.before.if1.false))
-    (rw rest at c.fair2.ensures)
+    looked_also (c.before.before.before.fair.ensures.holds (c.before.before.if-not-fair.false))
+    (rw rest at c.fair-2.ensures)
 
 pub both_fair_spec : {M : Type 1} → statement M
 both_fair_spec =

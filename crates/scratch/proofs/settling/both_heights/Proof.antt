@@ -5,7 +5,7 @@ use Rattle.scratch.proofs.ScratchParts.{half_room, front_length, rest}
 use Rattle.scratch.proofs.settling.both_heights.Statement.{statement}
 use Rattle.scratch.proofs.settling.both_heights.Tie as tie
 
-add_result : tie.Need-overflow-add-result
+add_result : tie.Need-overflow_add-result
 unfolding adding
 add_result c =
     let s = c.before.before.before.before in
@@ -13,7 +13,7 @@ add_result c =
     omega (
       arith,
       square_le s.requires.0,
-      rw rest at c.height-all2.ensures,
+      rw rest at c.height_all-2.ensures,
       heights_most adding cells (strict_part s.args.n s.args.t.now) (sound_held s.requires.1.strict) cells (omega arith),
       heights_most adding cells (open_part s.args.n s.args.t.now) (sound_held s.requires.1.weak) cells (omega arith),
     )
@@ -27,4 +27,4 @@ both_heights_spec =
     (λ c. search rules) (λ c. search rules) (λ c. search rules) (λ c. search rules)
     (λ c κs. search (arith, square_le, sound_held, rest))
     add_result
-    (λ c. omega (arith, rw rest at c.height-all2.ensures)))
+    (λ c. omega (arith, rw rest at c.height_all-2.ensures)))

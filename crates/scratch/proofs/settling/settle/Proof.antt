@@ -4,24 +4,24 @@ use Rattle.scratch.proofs.AddSweeps.{Sweeping, sweeping_none, sweeping_both, swe
 use Rattle.scratch.proofs.settling.settle.Statement.{statement}
 use Rattle.scratch.proofs.settling.settle.Tie as tie
 
-abbrev invariant_loop : tie.invariant_loop
+abbrev invariant_loop : tie.invariant-loop-n
 invariant_loop file n m k t₀ last₀ t last = Sweeping n (link_at file m) k t₀ t last
 
-abbrev decreases_loop : tie.decreases_loop
+abbrev decreases_loop : tie.decreases-loop-n
 decreases_loop file n m k t₀ last₀ t last = last
 
-returns_2 : tie.Need-returns-2 invariant_loop decreases_loop
+returns_2 : tie.Need-returns-then-next-last invariant_loop decreases_loop
 returns_2 c =
     let look = c.before.before.before.before in
     let sweep = look.before.before.before in
     let turn = sweep.before.before in
-    ended_yes (search) _ turn.loop.invariant (search) sweep.sweep.ensures (search) c.if2.true
-    (look.both-fair.ensures.holds (c.before.before.before.if1.false))
+    ended_yes (search) _ turn.loop-n.invariant (search) sweep.sweep.ensures (search) c.if-next-last.true
+    (look.both_fair.ensures.holds (c.before.before.before.if-not-both_fair.false))
 
-loop_less : tie.Need-loop-smaller invariant_loop decreases_loop
+loop_less : tie.Need-loop-n-smaller invariant_loop decreases_loop
 loop_less c =
     let turn = c.before.before.before.before.before.before.before.before.before in
-    let falls : c.before.both-heights2.result ≤ turn.loop.last = search sweeping_falls in
+    let falls : c.before.both_heights-next.result ≤ turn.loop-n.last = search sweeping_falls in
     omega arith
 
 pub settle_spec : {M : Type 1} → statement M
@@ -33,7 +33,7 @@ settle_spec =
     (λ c κs. search)
     (λ c κs. search (few, sweeping_both))
     (λ c. search sweeping_length)
-    (λ c. search (ended_no, c.before.both-fair.ensures.fails, not-true))
+    (λ c. search (ended_no, c.before.both_fair.ensures.fails, not-true))
     (λ c κs. search (few, sweeping_both))
     (λ c. search sweeping_length)
     returns_2 loop_less

@@ -4,7 +4,7 @@ use Rattle.scratch.proofs.AddSweeps.{both_first, both_under, open_swept}
 use Rattle.scratch.proofs.settling.sweep.Statement.{statement}
 use Rattle.scratch.proofs.settling.sweep.Tie as tie
 
-sweep_last_requires : tie.Need-sweep-last-requires
+sweep_last_requires : tie.Need-sweep_last-requires
 sweep_last_requires c κs =
     let under = c.before.before.open_under in
     let s = c.before.before.before.before.before.before.before.before in

@@ -4,17 +4,17 @@ use Rattle.lowering.proofs.Laws.LinksAsRead.{lower_edge_own, lower_edge_is}
 use Rattle.spreads.proofs.lowers.lower_edge.Statement.{statement}
 use Rattle.spreads.proofs.lowers.lower_edge.Tie as tie
 
-returns : tie.Need-returns
-returns c = lower_edge_own version1 _ _ _ _ c.if1.true
+returns : tie.Need-returns-then-b-a
+returns c = lower_edge_own version1 _ _ _ _ c.if-b-a.true
 
-returns_2 : tie.Need-returns-2
+returns_2 : tie.Need-returns
 returns_2 c =
     let s = c.before.before.before.before.before.before.before.before.before.before.before.before.before in
-    let if1 = c.before.before.before.before.before.before.before.before.before.before.if1 in
-    let get = c.before.before.before.before.before.get in
+    let if1 = c.before.before.before.before.before.before.before.before.before.before.if-b-a in
+    let get = c.before.before.before.before.before.get-c in
     let b = link_of s.args.b in
     let cell = c.before.before.lower.ensures (link_of s.args.a) b refl (spread_is b s.requires.2.order) in
-    search (lower_edge_is, if1.false, get.ensures, cell, c.before.new-edge.ensures)
+    search (lower_edge_is, if1.false, get.ensures, cell, c.before.new_edge.ensures)
 
 pub lower_edge_spec : {M : Type 1} → statement M
 lower_edge_spec =

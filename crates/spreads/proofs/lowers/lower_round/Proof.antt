@@ -5,13 +5,13 @@ use Rattle.lowering.proofs.Theory.SpreadSteps.{lower_edges_lowers}
 use Rattle.spreads.proofs.lowers.lower_round.Statement.{statement}
 use Rattle.spreads.proofs.lowers.lower_round.Tie as tie
 
-abbrev invariant_loop : tie.invariant_loop
+abbrev invariant_loop : tie.invariant-loop-i
 invariant_loop file n m k t₀ i₀ t i = Turns version1 n k (λ i. lower_edges version1 n (link_at file m) k (link_at file m i)) i t₀ t
 
-abbrev decreases_loop : tie.decreases_loop
+abbrev decreases_loop : tie.decreases-loop-i
 decreases_loop file n m k t₀ i₀ t i = k - i
 
-loop_again : tie.Need-loop-preserved invariant_loop decreases_loop
+loop_again : tie.Need-loop-i-preserved invariant_loop decreases_loop
 loop_again c =
     let lowers = lower_edges_lowers version1 version1_coherent _ _ _ (link_points c.before.before.before.before.before.before.requires.0) in
     search (turns_more, lowers, rules)

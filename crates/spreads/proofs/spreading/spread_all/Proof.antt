@@ -4,10 +4,10 @@ use Rattle.lowering.specs.Spread.{spread_all}
 use Rattle.spreads.proofs.spreading.spread_all.Statement.{statement}
 use Rattle.spreads.proofs.spreading.spread_all.Tie as tie
 
-spread_rows_requires_2 : tie.Need-spread-rows-requires-2
+spread_rows_requires_2 : tie.Need-spread_rows-requires-2
 spread_rows_requires_2 c κs =
     let s = c.before.before.before.before.before.before.before in
-    let rows = c.before.before.before.before.before.spread-rows in
+    let rows = c.before.before.before.before.before.spread_rows in
     let row = c.before.before.Spread-row in
     search (here_sound (spread_row_lowers version1 version1_coherent _ _ _ _) s.requires.1 s.requires.3 rows.ensures row.ensures, rules)
 

@@ -5,7 +5,7 @@ use Rattle.lowering.specs.Spread.{spread_row}
 use Rattle.spreads.proofs.spreading.spread_rows.Statement.{statement}
 use Rattle.spreads.proofs.spreading.spread_rows.Tie as tie
 
-abbrev invariant_loop : tie.invariant_loop
+abbrev invariant_loop : tie.invariant-loop-x
 invariant_loop t₀ n a b w first last x₀ t x = Stretch version1 n (spread_row version1 n a b (cell32 w.v)) first last x t₀ t
 
 pub spread_rows_spec : {M : Type 1} → statement M

@@ -4,13 +4,13 @@ use Rattle.lowering.proofs.Laws.SpreadAsRead.{take_edge_closes, take_edge_spread
 use Rattle.spreads.proofs.spreading.take_edge.Statement.{statement}
 use Rattle.spreads.proofs.spreading.take_edge.Tie as tie
 
-returns : tie.Need-returns
+returns : tie.Need-returns-then-below
 returns c =
     let add = c.before.before.before.before.before.before in
     let test = c.before.before.before in
     let none = c.before.before.before.before.before.of in
-    take_edge_closes version1 _ _ _ _ _ add.before.get.result.v add.add.result.v none.result.v add.before.get.ensures add.add.ensures
-    (span_cell (omega arith) none.ensures) test.before.below.ensures test.if1.true c.before.lower_cell_lem.ensures
+    take_edge_closes version1 _ _ _ _ _ add.before.get.result.v add.add-around.result.v none.result.v add.before.get.ensures add.add-around.ensures
+    (span_cell (omega arith) none.ensures) test.before.below.ensures test.if-below.true c.before.lower_cell.ensures
 
 pub take_edge_spec : {M : Type 1} → statement M
 take_edge_spec =

@@ -5,7 +5,7 @@ use Rattle.lowering.proofs.Theory.SpreadSteps.{upper_edge_lowers}
 use Rattle.spreads.proofs.uppers.upper_edges.Statement.{statement}
 use Rattle.spreads.proofs.uppers.upper_edges.Tie as tie
 
-abbrev invariant_loop : tie.invariant_loop
+abbrev invariant_loop : tie.invariant-loop-x
 invariant_loop t₀ n a x₀ t x = Turns version1 n n (upper_edge version1 n (link_of a)) x t₀ t
 
 pub upper_edges_spec : {M : Type 1} → statement M

@@ -6,18 +6,18 @@ use Rattle.words.proofs.asking.both.Statement.{statement}
 use Rattle.words.proofs.asking.both.Tie as tie
 
 -- past the tests x and y are below n, and there are n words
-let_through : (c : tie.Else1) → Asked c.before.before.before.before.args.n c.before.before.before.before.args.x c.before.before.before.before.args.y (length c.before.before.before.before.args.words.now)
+let_through : (c : tie.Else-not-accepted) → Asked c.before.before.before.before.args.n c.before.before.before.before.args.x c.before.before.before.before.args.y (length c.before.before.before.before.args.words.now)
 let_through c =
-    asked_done (is_accepted _ c.before.before.asked.ensures c.before.accepted.ensures c.if1.false)
+    asked_done (is_accepted _ c.before.before.asked-a.ensures c.before.accepted.ensures c.if-not-accepted.false)
 
-returns : tie.Need-returns
-returns c = both_refused c.before.before.asked.ensures (not_accepted _ refl c.before.accepted.ensures c.if1.true)
+returns : tie.Need-returns-then-not-accepted
+returns c = both_refused c.before.before.asked-a.ensures (not_accepted _ refl c.before.accepted.ensures c.if-not-accepted.true)
 
-returns_2 : tie.Need-returns-2
+returns_2 : tie.Need-returns
 returns_2 c =
     let else = c.before.before in
-    both_word else.before.before.asked.ensures (is_accepted _ refl else.before.accepted.ensures else.if1.false)
-    (c.shared-slice-known3.given _).fits (c.shared-slice-known3.given _).fits
+    both_word else.before.before.asked-a.ensures (is_accepted _ refl else.before.accepted.ensures else.if-not-accepted.false)
+    (c.shared_slice_known-3-1.given _).fits (c.shared_slice_known-3-1.given _).fits
 
 pub both_spec : {M : Type 1} → statement M
 both_spec =

@@ -4,12 +4,12 @@ use Rattle.words.proofs.BitCounts.{zero_highest, leading_highest, leading_few}
 use Rattle.words.proofs.asking.highest.Statement.{statement}
 use Rattle.words.proofs.asking.highest.Tie as tie
 
-returns : tie.Need-returns
-returns c = rw c.if1.true zero_highest
+returns : tie.Need-returns-then-w-eq0
+returns c = rw c.if-w-eq0.true zero_highest
 
 pub highest_spec : {M : Type 1} → statement M
 highest_spec =
     tie.close
     (tie.spec returns
-    (λ c. omega (arith, leading_few c.before.args.w (omega (arith, c.if1.false)) c.before.ranges.w.fits))
-    (λ c. leading_highest _ (omega (arith, c.if1.false)) c.before.ranges.w.fits))
+    (λ c. omega (arith, leading_few c.before.args.w (omega (arith, c.if-w-eq0.false)) c.before.ranges.w.fits))
+    (λ c. leading_highest _ (omega (arith, c.if-w-eq0.false)) c.before.ranges.w.fits))

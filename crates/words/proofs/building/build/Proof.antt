@@ -6,24 +6,24 @@ use Rattle.words.proofs.WordsWritten.{first_none, first_more, first_all}
 use Rattle.words.proofs.building.build.Statement.{statement}
 use Rattle.words.proofs.building.build.Tie as tie
 
-abbrev invariant_loop : tie.invariant_loop
+abbrev invariant_loop : tie.invariant-loop-x
 invariant_loop n strict words₀ x₀ words x = (x ≤ n) × FirstWords x (λ i. word_of n (bounds n strict i)) words₀ words
 
-abbrev decreases_loop : tie.decreases_loop
+abbrev decreases_loop : tie.decreases-loop-x
 decreases_loop n strict words₀ x₀ words x = n - x
 
-loop_again : tie.Need-loop-preserved invariant_loop decreases_loop
+loop_again : tie.Need-loop-x-preserved invariant_loop decreases_loop
 loop_again c =
-    let loop = c.before.before.loop in
+    let loop = c.before.before.loop-x in
     let pre = c.before.before.before.before.requires in
-    (search rules, first_more _ loop.invariant.1 (omega (arith, pre.2)) c.word.ensures)
+    (search rules, first_more _ loop.invariant.1 (omega (arith, pre.2)) c.word-w.ensures)
 
 returns : tie.Need-returns invariant_loop decreases_loop
-returns c = first_all c.before.loop.invariant.1 c.before.loop.invariant.0 (search rules)
+returns c = first_all c.before.loop-x.invariant.1 c.before.loop-x.invariant.0 (search rules)
 
 pub build_spec : {M : Type 1} → statement M
 build_spec =
     tie.close
     (tie.spec invariant_loop decreases_loop (λ c. (omega arith, first_none)) (λ c κs. search rules) (λ c. omega arith)
-    (λ c. omega (arith, c.before.before.loop.invariant.1.length_same)) (λ c. search rules) (λ c. search rules) loop_again
-    (λ c. c.before.loop.invariant.1.length_same) returns)
+    (λ c. omega (arith, c.before.before.loop-x.invariant.1.length_same)) (λ c. search rules) (λ c. search rules) loop_again
+    (λ c. c.before.loop-x.invariant.1.length_same) returns)

@@ -6,19 +6,19 @@ use Rattle.words.proofs.WordAnswers.{room_done}
 use Rattle.words.proofs.building.reach.Statement.{statement}
 use Rattle.words.proofs.building.reach.Tie as tie
 
-returns : tie.Need-returns
-returns c = Reached.refused c.before.before.room.ensures (not_accepted _ refl c.before.accepted.ensures c.if1.true)
+returns : tie.Need-returns-then-not-accepted
+returns c = Reached.refused c.before.before.room-a.ensures (not_accepted _ refl c.before.accepted.ensures c.if-not-accepted.true)
 
 build_requires : tie.Need-build-requires
 build_requires c κs =
     let else = c.before in
-    let t = room_done (is_accepted _ else.before.before.room.ensures else.before.accepted.ensures else.if1.false) in
-    (t.few, t.table, t.room)
+    let t = room_done (is_accepted _ else.before.before.room-a.ensures else.before.accepted.ensures else.if-not-accepted.false) in
+    (t.few, t.table, t.room-a)
 
-returns_2 : tie.Need-returns-2
+returns_2 : tie.Need-returns
 returns_2 c =
     let else = c.before.before.before.before in
-    Reached.built (is_accepted _ else.before.before.room.ensures else.before.accepted.ensures else.if1.false)
+    Reached.built (is_accepted _ else.before.before.room-a.ensures else.before.accepted.ensures else.if-not-accepted.false)
     c.before.before.build.ensures
 
 pub reach_spec : {M : Type 1} → statement M

@@ -7,7 +7,7 @@ use Rattle.words.proofs.building.room.Tie as tie
 pub room_spec : {M : Type 1} → statement M
 room_spec =
     tie.close
-    (tie.spec (λ c. room_bad _ _ _ c.if1.true)
-    (λ c. omega (arith, square_le {n = c.before.args.n} (points_few _ c.if1.false)))
-    (λ c. room_short _ _ _ c.before.if1.false c.if2.true)
-    (λ c. room_through _ _ _ c.before.if1.false c.if2.false))
+    (tie.spec (λ c. room_bad _ _ _ c.if-not-n.true)
+    (λ c. omega (arith, square_le {n = c.before.args.n} (points_few _ c.if-not-n.false)))
+    (λ c. room_short _ _ _ c.before.if-not-n.false c.if-not-points-cells.true)
+    (λ c. room_through _ _ _ c.before.if-not-n.false c.if-not-points-cells.false))
