@@ -7,31 +7,31 @@ use Rattle.first.proofs.starting.first_strict.Tie as tie
 
 limit_all_requires : tie.Need-limit_all-requires
 limit_all_requires c κs =
-    let s = c.before.before.before.before.before.before.before.before in
-    let marks = sound_marks s.args.t-1.now s.requires.1 c.before.before.before.before.before.mark_all.ensures in
-    (s.requires.0, sound_diagonal marks c.before.before.diagonal_all.ensures)
+    let s = c in
+    let marks = sound_marks s.args.t.now s.requires.1 c.mark_all.ensures in
+    (s.requires.0, sound_diagonal marks c.diagonal_all.ensures)
 
 start_all_requires : tie.Need-start_all-requires
 start_all_requires c κs =
-    let s = c.before.before.before.before.before.before.before.before.before.before.before in
-    let marks = sound_marks s.args.t-1.now s.requires.1 c.before.before.before.before.before.before.before.before.mark_all.ensures in
-    let diagonal = sound_diagonal marks c.before.before.before.before.before.diagonal_all.ensures in
-    (few s.requires.0, sound_limits s.requires.0 diagonal c.before.before.limit_all.ensures)
+    let s = c in
+    let marks = sound_marks s.args.t.now s.requires.1 c.mark_all.ensures in
+    let diagonal = sound_diagonal marks c.diagonal_all.ensures in
+    (few s.requires.0, sound_limits s.requires.0 diagonal c.limit_all.ensures)
 
 link_all_requires : tie.Need-link_all-requires
 link_all_requires c κs =
-    let s = c.before.before.before.before.before.before.before.before.before.before.before.before.before.before in
-    let first = c.before.before.before.before.before.before.before.before in
-    let marks = sound_marks s.args.t-1.now s.requires.1 first.before.before.before.mark_all.ensures in
+    let s = c in
+    let first = c in
+    let marks = sound_marks s.args.t.now s.requires.1 first.mark_all.ensures in
     let diagonal = sound_diagonal marks first.diagonal_all.ensures in
-    let limits = sound_limits s.requires.0 diagonal c.before.before.before.before.before.limit_all.ensures in
-    (s.requires.0, sound_starts limits c.before.before.start_all.ensures)
+    let limits = sound_limits s.requires.0 diagonal c.limit_all.ensures in
+    (s.requires.0, sound_starts limits c.start_all.ensures)
 
 pub first_strict_spec : {M : Type 1} → statement M
 unfolding first_strict
 first_strict_spec =
     tie.close
-    (tie.spec (λ c. omega (arith, square_le (few c.before.before.requires.0)))
+    (tie.spec (λ c. omega (arith, square_le (few c.requires.0)))
     (λ c κs. search rules)
     (λ c κs. search (few, sound_marks, rules))
     limit_all_requires start_all_requires link_all_requires (λ c. search rules) (λ c. cc))

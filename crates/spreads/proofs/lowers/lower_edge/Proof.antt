@@ -9,12 +9,12 @@ returns c = lower_edge_own version1 _ _ _ _ c.if-b-a.true
 
 returns_2 : tie.Need-returns
 returns_2 c =
-    let s = c.before.before.before.before.before.before.before.before.before.before.before.before.before in
-    let if1 = c.before.before.before.before.before.before.before.before.before.before.if-b-a in
-    let get = c.before.before.before.before.before.get-c in
+    let s = c in
+    let if1 = c.if-b-a in
+    let get = c.get-c in
     let b = link_of s.args.b in
-    let cell = c.before.before.lower.ensures (link_of s.args.a) b refl (spread_is b s.requires.2.order) in
-    search (lower_edge_is, if1.false, get.ensures, cell, c.before.new_edge.ensures)
+    let cell = c.lower.ensures (link_of s.args.a) b refl (spread_is b s.requires.2.order) in
+    search (lower_edge_is, if1.false, get.ensures, cell, c.new_edge.ensures)
 
 pub lower_edge_spec : {M : Type 1} → statement M
 lower_edge_spec =

@@ -6,9 +6,9 @@ use Rattle.spreads.proofs.spreading.spread_all.Tie as tie
 
 spread_rows_requires_2 : tie.Need-spread_rows-requires-2
 spread_rows_requires_2 c κs =
-    let s = c.before.before.before.before.before.before.before in
-    let rows = c.before.before.before.before.before.spread_rows in
-    let row = c.before.before.Spread-row in
+    let s = c in
+    let rows = c.spread_rows in
+    let row = c.spread_row in
     search (here_sound (spread_row_lowers version1 version1_coherent _ _ _ _) s.requires.1 s.requires.3 rows.ensures row.ensures, rules)
 
 pub spread_all_spec : {M : Type 1} → statement M

@@ -6,19 +6,19 @@ use Rattle.spreads.proofs.spreading.spread_row.Tie as tie
 
 returns : tie.Need-returns-then-below
 returns c =
-    let add = c.before.before.before.before.before.before.before in
-    let test = c.before.before.before in
-    let old = c.before.before.before.before.before.get-old in
-    spread_row_is version1 _ _ _ _ _ _ add.before.get.result.v add.add-way.result.v old.result.v add.before.get.ensures add.add-way.ensures
-    old.ensures test.before.below.ensures
-    test.if-below.true c.before.row_by.ensures
+    let add = c in
+    let test = c in
+    let old = c.get-old in
+    spread_row_is version1 _ _ _ _ _ _ add.get.result.v add.add-way.result.v old.result.v add.get.ensures add.add-way.ensures
+    old.ensures test.below.ensures
+    test.if-below.true c.row_by.ensures
 
 returns_2 : tie.Need-returns-else-below
 returns_2 c =
-    let get = c.before.before.before.before.before.get in
-    let get2 = c.before.before.get-old in
+    let get = c.get in
+    let get2 = c.get-old in
     search
-    (spread_row_stays, get.ensures, c.before.before.before.before.add-way.ensures, get2.ensures, c.before.below.ensures, c.if-below.false)
+    (spread_row_stays, get.ensures, c.add-way.ensures, get2.ensures, c.below.ensures, c.if-below.false)
 
 pub spread_row_spec : {M : Type 1} → statement M
 spread_row_spec =

@@ -6,10 +6,10 @@ use Rattle.spreads.proofs.uppers.upper_edge.Tie as tie
 
 returns : tie.Need-returns
 returns c =
-    let a = link_of c.before.before.before.before.before.before.before.before.args.a in
-    let get = c.before.before.before.before.get-c in
-    let upper = c.before.before.upper in
-    upper_edge_is version1 _ _ a _ _ get.result.v upper.result.v get.ensures (upper.ensures a refl refl) c.before.new_edge.ensures
+    let a = link_of c.args.a in
+    let get = c.get-c in
+    let upper = c.upper in
+    upper_edge_is version1 _ _ a _ _ get.result.v upper.result.v get.ensures (upper.ensures a refl refl) c.new_edge.ensures
 
 pub upper_edge_spec : {M : Type 1} → statement M
 upper_edge_spec =
