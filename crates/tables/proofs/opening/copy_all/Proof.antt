@@ -4,7 +4,7 @@ use borrow.Author.Rules.{sfits_of}
 use Rattle.tables.proofs.opening.copy_all.Statement.{statement}
 use Rattle.tables.proofs.opening.copy_all.Tie as tie
 
-abbrev invariant_loop : tie.invariant_loop
+abbrev invariant_loop : tie.invariant-loop-i
 invariant_loop strict t₀ count i₀ t i = Writing count (λ j v. v ≡ get_or strict j (pos 0)) i t₀ t
 
 pub copy_all_spec : {M : Type 1} → statement M
@@ -15,4 +15,4 @@ copy_all_spec =
     (λ c. search rules) (λ c. search rules)
     (λ c. search (writing_more, back, sfits_of, rules))
     (λ c. search rules)
-    (λ c. search (writing_all c.before.loop.invariant (omega arith))))
+    (λ c. search (writing_all c.before.loop-i.invariant (omega arith))))

@@ -6,18 +6,18 @@ use Rattle.lowering.proofs.Theory.SpreadSteps.{follow_lower_lowers}
 use Rattle.tables.proofs.opening.follow_lowers.Statement.{statement}
 use Rattle.tables.proofs.opening.follow_lowers.Tie as tie
 
-abbrev invariant_loop : tie.invariant_loop
+abbrev invariant_loop : tie.invariant-loop-j
 invariant_loop file n m k strict t₀ i a j₀ t j = Turns version1 n k (λ j. follow_lower version1 n strict (link_at file m i) (link_at file m j)) j t₀ t
 
-abbrev decreases_loop : tie.decreases_loop
+abbrev decreases_loop : tie.decreases-loop-j
 decreases_loop file n m k strict t₀ i a j₀ t j = k - j
 
-loop_again : tie.Need-loop-preserved invariant_loop decreases_loop
+loop_again : tie.Need-loop-j-preserved invariant_loop decreases_loop
 loop_again c =
     let s = c.before.before.before.before.before.before.before.before in
     let lowers = follow_lower_lowers version1 version1_coherent _ _ _ (link_points s.requires.1) s.args.strict.now s.args.i s.requires.0 in
-    let link_of = c.before.before.before.before.before.before.link_of in
-    search (turns_more, lowers, ← link_of.ensures, ← c.before.before.before.link-of2.ensures, rules)
+    let link_of = c.before.before.before.before.before.before.link_of-a in
+    search (turns_more, lowers, ← link_of.ensures, ← c.before.before.before.link_of-b.ensures, rules)
 
 pub follow_lowers_spec : {M : Type 1} → statement M
 unfolding follow_lowers

@@ -5,7 +5,7 @@ use Rattle.lowering.proofs.Theory.SpreadSteps.{follow_upper_lowers}
 use Rattle.tables.proofs.opening.follow_uppers.Statement.{statement}
 use Rattle.tables.proofs.opening.follow_uppers.Tie as tie
 
-abbrev invariant_loop : tie.invariant_loop
+abbrev invariant_loop : tie.invariant-loop-x
 invariant_loop strict t₀ n a x₀ t x = Turns version1 n n (follow_upper version1 n strict (link_of a)) x t₀ t
 
 pub follow_uppers_spec : {M : Type 1} → statement M

@@ -5,13 +5,13 @@ use Rattle.lowering.proofs.Theory.SpreadSteps.{follow_link_lowers}
 use Rattle.tables.proofs.opening.open_round.Statement.{statement}
 use Rattle.tables.proofs.opening.open_round.Tie as tie
 
-abbrev invariant_loop : tie.invariant_loop
+abbrev invariant_loop : tie.invariant-loop-i
 invariant_loop file n m k strict t₀ i₀ t i = Turns version1 n k (λ i. follow_link version1 n strict (link_at file m) k (link_at file m i)) i t₀ t
 
-abbrev decreases_loop : tie.decreases_loop
+abbrev decreases_loop : tie.decreases-loop-i
 decreases_loop file n m k strict t₀ i₀ t i = k - i
 
-loop_again : tie.Need-loop-preserved invariant_loop decreases_loop
+loop_again : tie.Need-loop-i-preserved invariant_loop decreases_loop
 loop_again c =
     let s = c.before.before.before.before.before.before in
     search (turns_more, follow_link_lowers version1 version1_coherent _ _ _ (link_points s.requires.0) s.args.strict.now, rules)

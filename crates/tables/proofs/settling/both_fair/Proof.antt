@@ -9,4 +9,4 @@ both_fair_spec =
     (tie.spec (λ c κs. search rules)
     (λ c. search (looked_no, inl, c.before.fair.ensures.fails, not-true))
     (λ c κs. search rules)
-    (λ c. looked_also (c.before.before.fair.ensures.holds (c.before.if1.false)) c.fair2.ensures))
+    (λ c. looked_also (c.before.before.fair.ensures.holds (c.before.if-not-fair.false)) c.fair-2.ensures))

@@ -7,62 +7,62 @@ use Rattle.tables.proofs.SettleLoop.{round_sound, round_falls, standing_on, stan
 use Rattle.tables.proofs.settling.settle.Statement.{statement}
 use Rattle.tables.proofs.settling.settle.Tie as tie
 
-abbrev invariant_loop : tie.invariant_loop
+abbrev invariant_loop : tie.invariant-loop-n
 invariant_loop file n m k strict₀ open₀ last₀ strict «open» last =
     Standing file m k strict₀ open₀ strict «open» × (last ≡ heights version1 (n * n) strict)
 
-abbrev decreases_loop : tie.decreases_loop
+abbrev decreases_loop : tie.decreases-loop-n
 decreases_loop file n m k strict₀ open₀ last₀ strict «open» last = last
 
-loop_holds : tie.Need-loop-init invariant_loop decreases_loop
+loop_holds : tie.Need-loop-n-init invariant_loop decreases_loop
 loop_holds c =
     let s = c.before.before.before.before.before.before.before.before.before.before in
-    (standing_here (standing_first s.requires.0 s.args.strict.now s.requires.1 (search) s.args.«open».now s.requires.2 (search)), search)
+    (standing_here (standing_first s.requires.0 s.args.strict-1.now s.requires.1 (search) s.args.«open».now s.requires.2 (search)), search)
 
 -- the call, seen from a turn of the loop
-abbrev call : tie.At-loop invariant_loop decreases_loop → tie.Start invariant_loop decreases_loop
+abbrev call : tie.At-loop-n invariant_loop decreases_loop → tie.Start invariant_loop decreases_loop
 call turn = turn.before.before.before.before.before.before.before.before.before.before.before
 
 -- at every turn both tables stand, past the room as they were lent
-here : (turn : tie.At-loop invariant_loop decreases_loop)
+here : (turn : tie.At-loop-n invariant_loop decreases_loop)
     → let a = (call turn).args in
-    Standing a.file.now a.m a.k a.strict.now a.«open».now turn.loop.strict turn.loop.«open»
+    Standing a.file.now a.m a.k a.strict-1.now a.«open».now turn.loop-n.strict-1 turn.loop-n.«open»
 here turn = search (standing_after, standing_first)
 
-returns : tie.Need-returns invariant_loop decreases_loop
-returns c = search (looked_no, standing_unfair, here c.before.before.before.before, c.before.both-fair.ensures.fails, not-true)
+returns : tie.Need-returns-then-not-both_fair invariant_loop decreases_loop
+returns c = search (looked_no, standing_unfair, here c.before.before.before.before, c.before.both_fair.ensures.fails, not-true)
 
 -- after a round the strict table is one that a sweep stores
-round_stored : (c : tie.After-strict-round invariant_loop decreases_loop)
-    → Sound version1 (call c.before.before.before.before.before.before).args.n c.strict-round.new.1.1.1.1.0
+round_stored : (c : tie.After-strict_round invariant_loop decreases_loop)
+    → Sound version1 (call c.before.before.before.before.before.before).args.n c.strict_round.new.1.1.1.1.0
 round_stored c =
     let turn = c.before.before.before.before.before.before in
     let ready = (call turn).requires.0 in
-    round_sound ready _ _ (standing_strict ready turn.loop.invariant.0) c.strict-round.ensures
+    round_sound ready _ _ (standing_strict ready turn.loop-n.invariant.0) c.strict_round.ensures
 
-returns_2 : tie.Need-returns-2 invariant_loop decreases_loop
+returns_2 : tie.Need-returns-then-next-last invariant_loop decreases_loop
 returns_2 c =
     let round = c.before.before.before.before in
     let look = round.before.before.before in
     let turn = look.before.before.before in
-    let fair = look.both-fair.ensures.holds (round.before.before.if1.false) in
+    let fair = look.both_fair.ensures.holds (round.before.before.if-not-both_fair.false) in
     looked_yes
-    (standing_ends (call turn).requires.0 (here turn) round.strict-round.ensures
-    (sym c.before.strict-height2.ensures ∙ (c.if2.true ∙ turn.loop.invariant.1)) fair.0 fair.1)
+    (standing_ends (call turn).requires.0 (here turn) round.strict_round.ensures
+    (sym c.before.strict_height-next.ensures ∙ (c.if-next-last.true ∙ turn.loop-n.invariant.1)) fair.0 fair.1)
 
-loop_less : tie.Need-loop-smaller invariant_loop decreases_loop
+loop_less : tie.Need-loop-n-smaller invariant_loop decreases_loop
 loop_less c =
     let round = c.before.before.before.before.before.before.before.before in
     let turn = round.before.before.before.before.before.before in
-    omega (arith, round_falls (call turn).requires.0 turn.loop.invariant.0 round.strict-round.ensures)
+    omega (arith, round_falls (call turn).requires.0 turn.loop-n.invariant.0 round.strict_round.ensures)
 
-loop_again : tie.Need-loop-preserved invariant_loop decreases_loop
+loop_again : tie.Need-loop-n-preserved invariant_loop decreases_loop
 loop_again c =
     let height = c.before.before.before.before.before in
     let round = height.before.before.before in
     let turn = round.before.before.before.before.before.before in
-    let on = standing_on (call turn).requires.0 turn.loop.invariant.0 round.strict-round.ensures c.before.open-round.ensures in
-    (on, height.strict-height2.ensures)
+    let on = standing_on (call turn).requires.0 turn.loop-n.invariant.0 round.strict_round.ensures c.before.open_round.ensures in
+    (on, height.strict_height-next.ensures)
 
 pub settle_spec : {M : Type 1} → statement M
 settle_spec =
