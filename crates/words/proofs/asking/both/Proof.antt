@@ -15,8 +15,7 @@ returns c = both_refused c.asked-a.ensures (not_accepted _ refl c.accepted.ensur
 
 returns_2 : tie.Need-returns
 returns_2 c =
-    let else = c in
-    both_word else.asked-a.ensures (is_accepted _ refl else.accepted.ensures else.if-not-accepted.false)
+    both_word c.asked-a.ensures (is_accepted _ refl c.accepted.ensures c.if-not-accepted.false)
     (c.shared_slice_known-3-1.given _).fits (c.shared_slice_known-3-1.given _).fits
 
 pub both_spec : {M : Type 1} → statement M

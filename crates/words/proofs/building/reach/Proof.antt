@@ -11,14 +11,12 @@ returns c = Reached.refused c.room-a.ensures (not_accepted _ refl c.accepted.ens
 
 build_requires : tie.Need-build-requires
 build_requires c κs =
-    let else = c in
-    let t = room_done (is_accepted _ else.room-a.ensures else.accepted.ensures else.if-not-accepted.false) in
+    let t = room_done (is_accepted _ c.room-a.ensures c.accepted.ensures c.if-not-accepted.false) in
     (t.few, t.table, t.room)
 
 returns_2 : tie.Need-returns
 returns_2 c =
-    let else = c in
-    Reached.built (is_accepted _ else.room-a.ensures else.accepted.ensures else.if-not-accepted.false)
+    Reached.built (is_accepted _ c.room-a.ensures c.accepted.ensures c.if-not-accepted.false)
     c.build.ensures
 
 pub reach_spec : {M : Type 1} → statement M

@@ -1,6 +1,6 @@
 -- `building::word` meets its contract: a bit for each point whose cell is no mark. Assumes nothing.
 use mathlib.Core.Bool.{not}
-use Rattle.lowering.proofs.Common.{rules, arith, refl, ap, ◌∙◌}
+use Rattle.lowering.proofs.Common.{arith, refl, ap, ◌∙◌}
 use Rattle.words.specs.Sets.{word_of}
 use Rattle.words.specs.Calls.{bounds}
 use Rattle.words.proofs.WordsWritten.{bound_read, bit_set, bit_left, word_all}
@@ -19,8 +19,8 @@ loop-y-preserved c =
     let is = bound_read args.n args.x loop.y args.strict.now c.get.ensures c.is_mark.ensures in (
       omega arith,
       elim c.if-not-is_mark.branch [
-        then-not-is_mark w ↦ w.w-is ∙ bit_set bounded loop.invariant.1 (omega arith) (is ∙ ap not w.if-not-is_mark.true)
-      | else-not-is_mark w ↦ w.w-is ∙ bit_left bounded loop.invariant.1 (is ∙ ap not w.if-not-is_mark.false)
+        | then-not-is_mark w ↦ w.w-is ∙ bit_set bounded loop.invariant.1 (omega arith) (is ∙ ap not w.if-not-is_mark.true)
+        | else-not-is_mark w ↦ w.w-is ∙ bit_left bounded loop.invariant.1 (is ∙ ap not w.if-not-is_mark.false)
       ],
     )
 

@@ -9,13 +9,11 @@ returns c = bounded_into_refused _ _ _ _ c.bounded-b.ensures c.accepted.ensures 
 
 returns_2 : tie.Need-returns-then-out-lt3
 returns_2 c =
-    let called = c in
-    bounded_into_short _ _ _ _ called.bounded-b.ensures called.accepted.ensures c.if-not-accepted.false c.if-out-lt3.true
+    bounded_into_short _ _ _ _ c.bounded-b.ensures c.accepted.ensures c.if-not-accepted.false c.if-out-lt3.true
 
 returns_3 : tie.Need-returns
 returns_3 c =
-    let called = c in
-    bounded_into_handed _ _ _ _ called.bounded-b.ensures called.accepted.ensures c.if-not-accepted.false c.if-out-lt3.false
+    bounded_into_handed _ _ _ _ c.bounded-b.ensures c.accepted.ensures c.if-not-accepted.false c.if-out-lt3.false
 
 -- the second cell, after the first was written
 second : tie.Need-bounds-out-1

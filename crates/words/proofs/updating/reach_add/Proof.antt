@@ -19,8 +19,7 @@ update_requires c κs = let t = let_through c.before in (t.few, t.first, t.secon
 
 returns_2 : tie.Need-returns
 returns_2 c =
-    let else = c in
-    ReachAdded.updated (is_accepted _ else.asked-a.ensures else.accepted.ensures else.if-not-accepted.false)
+    ReachAdded.updated (is_accepted _ c.asked-a.ensures c.accepted.ensures c.if-not-accepted.false)
     c.update.ensures
 
 pub reach_add_spec : {M : Type 1} → statement M
