@@ -1,13 +1,13 @@
 -- What comes before the work, and what the calls answer by it: laws that the walks through the code cite. Assumes nothing.
 use mathlib.Core.Path.{◌≡◌, refl, sym, ◌∙◌}
 use mathlib.Core.Logic.{◌≢◌}
-use mathlib.Core.Bool.{Bool, true, false, false≢true, true≢false, not, ◌&&◌}
+use mathlib.Core.Bool.{Bool, true, false, false≢true, true≢false, ◌&&◌}
 use mathlib.Core.List.{List}
 use Prim.Native.Nat.{ℕ, ◌*◌, ◌^◌, ◌≤◌, ◌<◌}
 use lib.Dec.{eqb, leb, ltb}
 use lib.ListN.{length}
 use lib.Bits.{bit_and}
-use borrow.Author.Tests.{not-true, not-false, ltb-true, leb-true, lt-ltb, le-leb, lt-leb}
+use borrow.Author.Tests.{ltb-true, leb-true, lt-ltb, le-leb, lt-leb}
 use Rattle.rules.specs.declared.Answer.{Answer}
 use Rattle.rules.specs.declared.Answer.TheVariants.{Done, BadPoints, ShortRoom}
 use Rattle.rules.specs.Plan.{version1}
@@ -23,13 +23,13 @@ use Rattle.words.proofs.BitsOfWords.{and_word}
 -- ---- the tests before a call
 
 -- two tests one after the other, each with its refusal
-first_refuses : (t : Bool) (a b : Answer) → eqb (code_of a) 0 ≡ false → not t ≡ true → a ≡ (unless t a then b)
-first_refuses true a b r h = absurd (false≢true h)
+first_refuses : (t : Bool) (a b : Answer) → eqb (code_of a) 0 ≡ false → t ≡ false → a ≡ (unless t a then b)
+first_refuses true a b r h = absurd (true≢false h)
 first_refuses false a b r h = rw r
 
-then_second : (t : Bool) (a b : Answer) → not t ≡ false → b ≡ (unless t a then b)
+then_second : (t : Bool) (a b : Answer) → t ≡ true → b ≡ (unless t a then b)
 then_second true a b h = refl
-then_second false a b h = absurd (true≢false h)
+then_second false a b h = absurd (false≢true h)
 
 refusing : (t : Bool) (a : Answer) → t ≡ false → a ≡ unless t a
 refusing t a h = rw h
@@ -39,17 +39,17 @@ passing t a h = rw h
 
 -- about two points: n and the points, then the words
 module _ (n x y words : ℕ) where
-  pub asked_bad : not (leb 1 n && leb n 64 && ltb x n && ltb y n) ≡ true → BadPoints ≡ asked_answer n x y words
+  pub asked_bad : (leb 1 n && leb n 64 && ltb x n && ltb y n) ≡ false → BadPoints ≡ asked_answer n x y words
   unfolding asked_answer version1
   asked_bad h = first_refuses (in_range n && ltb x n && ltb y n) BadPoints (unless (leb n words) ShortRoom) refl h
 
-  pub asked_short : not (leb 1 n && leb n 64 && ltb x n && ltb y n) ≡ false → words < n → ShortRoom ≡ asked_answer n x y words
+  pub asked_short : (leb 1 n && leb n 64 && ltb x n && ltb y n) ≡ true → words < n → ShortRoom ≡ asked_answer n x y words
   unfolding asked_answer version1
   asked_short h k =
       refusing (leb n words) ShortRoom (lt-leb n words k)
       ∙ then_second (in_range n && ltb x n && ltb y n) BadPoints (unless (leb n words) ShortRoom) h
 
-  pub asked_through : not (leb 1 n && leb n 64 && ltb x n && ltb y n) ≡ false → n ≤ words → Done ≡ asked_answer n x y words
+  pub asked_through : (leb 1 n && leb n 64 && ltb x n && ltb y n) ≡ true → n ≤ words → Done ≡ asked_answer n x y words
   unfolding asked_answer version1
   asked_through h k =
       passing (leb n words) ShortRoom (le-leb n words k)
@@ -57,25 +57,25 @@ module _ (n x y words : ℕ) where
 
 -- building: n, then the cells and the words
 module _ (n cells words : ℕ) where
-  pub room_bad : not (leb 1 n && leb n 64) ≡ true → BadPoints ≡ room_answer n cells words
+  pub room_bad : (leb 1 n && leb n 64) ≡ false → BadPoints ≡ room_answer n cells words
   unfolding room_answer version1
   room_bad h = first_refuses (in_range n) BadPoints (unless (leb (n * n) cells && leb n words) ShortRoom) refl h
 
-  pub room_short : not (leb 1 n && leb n 64) ≡ false → not (leb (n * n) cells && leb n words) ≡ true → ShortRoom ≡ room_answer n cells words
+  pub room_short : (leb 1 n && leb n 64) ≡ true → (leb (n * n) cells && leb n words) ≡ false → ShortRoom ≡ room_answer n cells words
   unfolding room_answer version1
   room_short h k =
-      refusing (leb (n * n) cells && leb n words) ShortRoom (not-true (leb (n * n) cells && leb n words) k)
+      refusing (leb (n * n) cells && leb n words) ShortRoom k
       ∙ then_second (in_range n) BadPoints (unless (leb (n * n) cells && leb n words) ShortRoom) h
 
-  pub room_through : not (leb 1 n && leb n 64) ≡ false → not (leb (n * n) cells && leb n words) ≡ false → Done ≡ room_answer n cells words
+  pub room_through : (leb 1 n && leb n 64) ≡ true → (leb (n * n) cells && leb n words) ≡ true → Done ≡ room_answer n cells words
   unfolding room_answer version1
   room_through h k =
-      passing (leb (n * n) cells && leb n words) ShortRoom (not-false (leb (n * n) cells && leb n words) k)
+      passing (leb (n * n) cells && leb n words) ShortRoom k
       ∙ then_second (in_range n) BadPoints (unless (leb (n * n) cells && leb n words) ShortRoom) h
 
 -- a number of points that was let through is small
-pub points_few : (n : ℕ) → not (leb 1 n && leb n 64) ≡ false → n ≤ 64
-points_few n h = leb-true n 64 (both (leb 1 n) (leb n 64) (not-false (leb 1 n && leb n 64) h)).1
+pub points_few : (n : ℕ) → (leb 1 n && leb n 64) ≡ true → n ≤ 64
+points_few n h = leb-true n 64 (both (leb 1 n) (leb n 64) h).1
 
 -- ---- what they let through
 

@@ -7,5 +7,5 @@ pub asked_spec : {M : Type 1} → statement M
 asked_spec =
     tie.close
     (tie.spec (λ c. asked_bad _ _ _ _ c.if-not-n-x.true)
-    (λ c. asked_short _ _ _ _ c.before.if-not-n-x.false c.if-words-n.true)
-    (λ c. asked_through _ _ _ _ c.before.if-not-n-x.false c.if-words-n.false))
+    (λ c. asked_short _ _ _ _ c.if-not-n-x.false c.if-words-n.true)
+    (λ c. asked_through _ _ _ _ c.if-not-n-x.false c.if-words-n.false))

@@ -6,17 +6,16 @@ use Rattle.words.proofs.asking.both.Statement.{statement}
 use Rattle.words.proofs.asking.both.Tie as tie
 
 -- past the tests x and y are below n, and there are n words
-let_through : (c : tie.Else-not-accepted) → Asked c.before.before.before.before.args.n c.before.before.before.before.args.x c.before.before.before.before.args.y (length c.before.before.before.before.args.words.now)
+let_through : (c : tie.Else-not-accepted) → Asked c.args.n c.args.x c.args.y (length c.args.words.now)
 let_through c =
-    asked_done (is_accepted _ c.before.before.asked-a.ensures c.before.accepted.ensures c.if-not-accepted.false)
+    asked_done (is_accepted _ c.asked-a.ensures c.accepted.ensures c.if-not-accepted.false)
 
 returns : tie.Need-returns-then-not-accepted
-returns c = both_refused c.before.before.asked-a.ensures (not_accepted _ refl c.before.accepted.ensures c.if-not-accepted.true)
+returns c = both_refused c.asked-a.ensures (not_accepted _ refl c.accepted.ensures c.if-not-accepted.true)
 
 returns_2 : tie.Need-returns
 returns_2 c =
-    let else = c.before.before in
-    both_word else.before.before.asked-a.ensures (is_accepted _ refl else.before.accepted.ensures else.if-not-accepted.false)
+    both_word c.asked-a.ensures (is_accepted _ refl c.accepted.ensures c.if-not-accepted.false)
     (c.shared_slice_known-3-1.given _).fits (c.shared_slice_known-3-1.given _).fits
 
 pub both_spec : {M : Type 1} → statement M

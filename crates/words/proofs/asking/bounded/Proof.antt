@@ -7,21 +7,21 @@ use Rattle.words.proofs.asking.bounded.Tie as tie
 
 returns : tie.Need-returns-then-not-accepted
 returns c =
-    let seen = c.before.before.accepted.ensures in
-    bounded_refused c.before.before.before.asked-a.ensures (not_accepted _ refl seen c.before.if-not-accepted.true) c.numbers.ensures
+    let seen = c.accepted.ensures in
+    bounded_refused c.asked-a.ensures (not_accepted _ refl seen c.if-not-accepted.true) c.numbers.ensures
 
 -- past the tests x is below n, and there are n words
-let_through : (c : tie.Else-not-accepted) → Asked c.before.before.before.before.args.n c.before.before.before.before.args.x c.before.before.before.before.args.x (length c.before.before.before.before.args.words.now)
+let_through : (c : tie.Else-not-accepted) → Asked c.args.n c.args.x c.args.x (length c.args.words.now)
 let_through c =
-    asked_done (is_accepted _ c.before.before.asked-a.ensures c.before.accepted.ensures c.if-not-accepted.false)
+    asked_done (is_accepted _ c.asked-a.ensures c.accepted.ensures c.if-not-accepted.false)
 
 shared_slice_read_numbers : tie.Need-bounds-words-x
 shared_slice_read_numbers c = let t = let_through c.before in omega (arith, t.first, t.room)
 
 returns_2 : tie.Need-returns
 returns_2 c =
-    let seen = c.before.before.before.accepted.ensures in
-    bounded_numbers c.before.before.before.before.asked-a.ensures (is_accepted _ refl seen c.before.before.if-not-accepted.false) c.numbers-2.ensures
+    let seen = c.accepted.ensures in
+    bounded_numbers c.asked-a.ensures (is_accepted _ refl seen c.if-not-accepted.false) c.numbers-2.ensures
 
 pub bounded_spec : {M : Type 1} → statement M
 bounded_spec =

@@ -11,5 +11,5 @@ pub highest_spec : {M : Type 1} → statement M
 highest_spec =
     tie.close
     (tie.spec returns
-    (λ c. omega (arith, leading_few c.before.args.w (omega (arith, c.if-w-eq0.false)) c.before.ranges.w.fits))
-    (λ c. leading_highest _ (omega (arith, c.if-w-eq0.false)) c.before.ranges.w.fits))
+    (λ c. omega (arith, leading_few c.args.w (omega (arith, c.if-w-eq0.false)) c.ranges.w.fits))
+    (λ c. leading_highest _ (omega (arith, c.if-w-eq0.false)) c.ranges.w.fits))

@@ -6,8 +6,8 @@ use Rattle.words.proofs.asking.numbers.Tie as tie
 
 returns : tie.Need-returns
 returns c =
-    let w = c.before.args.w in
-    (refl, record { number_is = ones_number 64 w c.before.ranges.w.fits; lowest_is = trailing_lowest w; highest_is = c.highest.ensures })
+    let w = c.args.w in
+    (refl, record { number_is = ones_number 64 w c.ranges.w.fits; lowest_is = trailing_lowest w; highest_is = c.highest.ensures })
 
 pub numbers_spec : {M : Type 1} → statement M
 numbers_spec = tie.close (tie.spec (λ c κs. search rules) returns)

@@ -14,16 +14,16 @@ decreases_loop n strict words₀ x₀ words x = n - x
 
 loop_again : tie.Need-loop-x-preserved invariant_loop decreases_loop
 loop_again c =
-    let loop = c.before.before.loop-x in
-    let pre = c.before.before.before.before.requires in
+    let loop = c.loop-x in
+    let pre = c.requires in
     (search rules, first_more _ loop.invariant.1 (omega (arith, pre.2)) c.word-w.ensures)
 
 returns : tie.Need-returns invariant_loop decreases_loop
-returns c = first_all c.before.loop-x.invariant.1 c.before.loop-x.invariant.0 (search rules)
+returns c = first_all c.loop-x.invariant.1 c.loop-x.invariant.0 (search rules)
 
 pub build_spec : {M : Type 1} → statement M
 build_spec =
     tie.close
     (tie.spec invariant_loop decreases_loop (λ c. (omega arith, first_none)) (λ c κs. search rules) (λ c. omega arith)
-    (λ c. omega (arith, c.before.before.loop-x.invariant.1.length_same)) (λ c. search rules) (λ c. search rules) loop_again
-    (λ c. c.before.loop-x.invariant.1.length_same) returns)
+    (λ c. omega (arith, c.loop-x.invariant.1.length_same)) (λ c. search rules) (λ c. search rules) loop_again
+    (λ c. c.loop-x.invariant.1.length_same) returns)

@@ -7,19 +7,17 @@ use Rattle.words.proofs.building.reach.Statement.{statement}
 use Rattle.words.proofs.building.reach.Tie as tie
 
 returns : tie.Need-returns-then-not-accepted
-returns c = Reached.refused c.before.before.room-a.ensures (not_accepted _ refl c.before.accepted.ensures c.if-not-accepted.true)
+returns c = Reached.refused c.room-a.ensures (not_accepted _ refl c.accepted.ensures c.if-not-accepted.true)
 
 build_requires : tie.Need-build-requires
 build_requires c κs =
-    let else = c.before in
-    let t = room_done (is_accepted _ else.before.before.room-a.ensures else.before.accepted.ensures else.if-not-accepted.false) in
-    (t.few, t.table, t.room-a)
+    let t = room_done (is_accepted _ c.room-a.ensures c.accepted.ensures c.if-not-accepted.false) in
+    (t.few, t.table, t.room)
 
 returns_2 : tie.Need-returns
 returns_2 c =
-    let else = c.before.before.before.before in
-    Reached.built (is_accepted _ else.before.before.room-a.ensures else.before.accepted.ensures else.if-not-accepted.false)
-    c.before.before.build.ensures
+    Reached.built (is_accepted _ c.room-a.ensures c.accepted.ensures c.if-not-accepted.false)
+    c.build.ensures
 
 pub reach_spec : {M : Type 1} → statement M
 reach_spec =

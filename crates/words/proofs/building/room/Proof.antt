@@ -8,6 +8,6 @@ pub room_spec : {M : Type 1} → statement M
 room_spec =
     tie.close
     (tie.spec (λ c. room_bad _ _ _ c.if-not-n.true)
-    (λ c. omega (arith, square_le {n = c.before.args.n} (points_few _ c.if-not-n.false)))
-    (λ c. room_short _ _ _ c.before.if-not-n.false c.if-not-points-cells.true)
-    (λ c. room_through _ _ _ c.before.if-not-n.false c.if-not-points-cells.false))
+    (λ c. omega (arith, square_le {n = c.args.n} (points_few _ c.if-not-n.false)))
+    (λ c. room_short _ _ _ c.if-not-n.false c.if-not-points-cells.true)
+    (λ c. room_through _ _ _ c.if-not-n.false c.if-not-points-cells.false))

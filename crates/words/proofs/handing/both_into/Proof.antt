@@ -5,17 +5,15 @@ use Rattle.words.proofs.handing.both_into.Statement.{statement}
 use Rattle.words.proofs.handing.both_into.Tie as tie
 
 returns : tie.Need-returns-then-not-accepted
-returns c = both_into_refused _ _ _ _ _ c.before.before.both-b.ensures c.before.accepted.ensures c.if-not-accepted.true
+returns c = both_into_refused _ _ _ _ _ c.both-b.ensures c.accepted.ensures c.if-not-accepted.true
 
 returns_2 : tie.Need-returns-then-out-lt1
 returns_2 c =
-    let called = c.before.before in
-    both_into_short _ _ _ _ _ called.before.both-b.ensures called.accepted.ensures c.before.if-not-accepted.false c.if-out-lt1.true
+    both_into_short _ _ _ _ _ c.both-b.ensures c.accepted.ensures c.if-not-accepted.false c.if-out-lt1.true
 
 returns_3 : tie.Need-returns
 returns_3 c =
-    let called = c.before.before in
-    both_into_handed _ _ _ _ _ called.before.both-b.ensures called.accepted.ensures c.before.if-not-accepted.false c.if-out-lt1.false
+    both_into_handed _ _ _ _ _ c.both-b.ensures c.accepted.ensures c.if-not-accepted.false c.if-out-lt1.false
 
 pub both_into_spec : {M : Type 1} → statement M
 both_into_spec =

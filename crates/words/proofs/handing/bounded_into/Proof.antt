@@ -5,21 +5,19 @@ use Rattle.words.proofs.handing.bounded_into.Statement.{statement}
 use Rattle.words.proofs.handing.bounded_into.Tie as tie
 
 returns : tie.Need-returns-then-not-accepted
-returns c = bounded_into_refused _ _ _ _ c.before.before.bounded-b.ensures c.before.accepted.ensures c.if-not-accepted.true
+returns c = bounded_into_refused _ _ _ _ c.bounded-b.ensures c.accepted.ensures c.if-not-accepted.true
 
 returns_2 : tie.Need-returns-then-out-lt3
 returns_2 c =
-    let called = c.before.before in
-    bounded_into_short _ _ _ _ called.before.bounded-b.ensures called.accepted.ensures c.before.if-not-accepted.false c.if-out-lt3.true
+    bounded_into_short _ _ _ _ c.bounded-b.ensures c.accepted.ensures c.if-not-accepted.false c.if-out-lt3.true
 
 returns_3 : tie.Need-returns
 returns_3 c =
-    let called = c.before.before in
-    bounded_into_handed _ _ _ _ called.before.bounded-b.ensures called.accepted.ensures c.before.if-not-accepted.false c.if-out-lt3.false
+    bounded_into_handed _ _ _ _ c.bounded-b.ensures c.accepted.ensures c.if-not-accepted.false c.if-out-lt3.false
 
 -- the second cell, after the first was written
 second : tie.Need-bounds-out-1
-second c = let out = c.before.before.before.before.before.before.args.out.now in kept_room out 0 _ 1 (omega arith)
+second c = let out = c.args.out.now in kept_room out 0 _ 1 (omega arith)
 
 pub bounded_into_spec : {M : Type 1} → statement M
 bounded_into_spec =

@@ -7,21 +7,20 @@ use Rattle.words.proofs.updating.reach_add.Statement.{statement}
 use Rattle.words.proofs.updating.reach_add.Tie as tie
 
 returns : tie.Need-returns-then-not-accepted
-returns c = ReachAdded.refused c.before.before.asked-a.ensures (not_accepted _ refl c.before.accepted.ensures c.if-not-accepted.true)
+returns c = ReachAdded.refused c.asked-a.ensures (not_accepted _ refl c.accepted.ensures c.if-not-accepted.true)
 
 -- past the tests x and y are below n, and there are n words
-let_through : (c : tie.Else-not-accepted) → Asked c.before.before.before.before.args.n c.before.before.before.before.args.x c.before.before.before.before.args.y (length c.before.before.before.before.args.words-1.now)
+let_through : (c : tie.Else-not-accepted) → Asked c.args.n c.args.x c.args.y (length c.args.words.now)
 let_through c =
-    asked_done (is_accepted _ c.before.before.asked-a.ensures c.before.accepted.ensures c.if-not-accepted.false)
+    asked_done (is_accepted _ c.asked-a.ensures c.accepted.ensures c.if-not-accepted.false)
 
 update_requires : tie.Need-update-requires
 update_requires c κs = let t = let_through c.before in (t.few, t.first, t.second, t.room)
 
 returns_2 : tie.Need-returns
 returns_2 c =
-    let else = c.before.before.before.before in
-    ReachAdded.updated (is_accepted _ else.before.before.asked-a.ensures else.before.accepted.ensures else.if-not-accepted.false)
-    c.before.before.update.ensures
+    ReachAdded.updated (is_accepted _ c.asked-a.ensures c.accepted.ensures c.if-not-accepted.false)
+    c.update.ensures
 
 pub reach_add_spec : {M : Type 1} → statement M
 reach_add_spec =

@@ -8,5 +8,5 @@ pub take_spec : {M : Type 1} → statement M
 take_spec =
     tie.close
     (tie.spec (λ c. search rules)
-    (λ c. bits_taken _ _ _ c.before.ranges.w.fits c.before.ranges.to.fits c.if-w-x-eq1.true)
+    (λ c. bits_taken _ _ _ c.ranges.w.fits c.ranges.to.fits c.if-w-x-eq1.true)
     (λ c. bits_not_taken _ _ _ c.if-w-x-eq1.false))

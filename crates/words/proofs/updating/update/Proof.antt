@@ -13,17 +13,17 @@ decreases_loop n x y words₀ to i₀ words i = n - i
 
 loop_again : tie.Need-loop-i-preserved invariant_loop decreases_loop
 loop_again c =
-    let loop = c.before.before.before.loop-i in
-    let pre = c.before.before.before.before.before.before.requires in
+    let loop = c.loop-i in
+    let pre = c.requires in
     (search rules, first_more _ loop.invariant.1 (omega (arith, pre.3)) (c.take-w.ensures ∙ ap (taking _ _) (loop.invariant.1.beyond_same loop.i (omega arith))))
 
 returns : tie.Need-returns invariant_loop decreases_loop
-returns c = first_all c.before.loop-i.invariant.1 c.before.loop-i.invariant.0 (search rules)
+returns c = first_all c.loop-i.invariant.1 c.loop-i.invariant.0 (search rules)
 
 pub update_spec : {M : Type 1} → statement M
 update_spec =
     tie.close
     (tie.spec invariant_loop decreases_loop (λ c. omega arith) (λ c. omega arith) (λ c. (omega arith, first_none))
-    (λ c. omega arith) (λ c. omega (arith, c.before.before.loop-i.invariant.1.length_same)) (λ c κs. omega arith)
-    (λ c. omega arith) (λ c. omega (arith, c.before.before.before.loop-i.invariant.1.length_same))
-    (λ c. search rules) (λ c. search rules) loop_again (λ c. c.before.loop-i.invariant.1.length_same) returns)
+    (λ c. omega arith) (λ c. omega (arith, c.loop-i.invariant.1.length_same)) (λ c κs. omega arith)
+    (λ c. omega arith) (λ c. omega (arith, c.loop-i.invariant.1.length_same))
+    (λ c. search rules) (λ c. search rules) loop_again (λ c. c.loop-i.invariant.1.length_same) returns)
