@@ -1,5 +1,5 @@
-# Sourced by run, program, bench, instructions and bite: which compilers, which emulator, where things lie, and how programs are built. Works on x86-64 and on Arm.
-# The library is x86-64 code, so what links it is compiled for x86-64 and, elsewhere, run by the kit's emulator. What does not link it is native.
+# Sourced by run, program, bench, instructions and bite: which compiler, where things lie, and how programs are built.
+# The library and the small program are x86-64 code, and the toolchain has no emulator: elsewhere there is the stand-in alone.
 
 here=$(cd "$(dirname "${BASH_SOURCE[0]}")" && pwd)
 root=$(dirname "$here")
@@ -24,29 +24,22 @@ need() {
 
 # Ends with a sentence where the small program is not built: what is not there was not held.
 program_built() {
-  [[ -x $verdict ]] || fail "there is no ${verdict#"$root"/}, the small program: build it with \`rt check verdict\`" \
-    "(where that says unchanged, remove target/stamp/verdict first)"
+  [[ -x $verdict ]] || fail "there is no ${verdict#"$root"/}, the small program: build it with \`tools/build program verdict\`"
 }
 
 # A flavour is how the calls are come by: `standin`, the plain C++ calls, native; or `library`, libpost.a.
 choose() {
   flavour=$1
-  compiler=g++ emulator=()
+  compiler=g++
   need g++ g++
   [[ $flavour == library ]] || return 0
-  [[ -f $library ]] || fail "there is no $(realpath -m --relative-to="$PWD" "$library"): build it with \`rt staticlib post\`, or name standin"
+  [[ -f $library ]] || fail "there is no $(realpath -m --relative-to="$PWD" "$library"): build it with \`tools/build archive\`, or name standin"
   x86_64_code
 }
 
-# The compiler of x86-64 code, and what runs it here.
+# Ends with a sentence where x86-64 code does not run.
 x86_64_code() {
-  [[ $(uname -m) == x86_64 ]] && return 0
-  compiler=x86_64-linux-gnu-g++
-  need "$compiler" g++-x86-64-linux-gnu
-  local guide
-  guide=$(rt doc) || fail "rt is not there, and with it the kit's emulator"
-  emulator=("${guide%/docs/*}/on/$(uname -m)/toolchain/bin/qemu-x86_64" -L /usr/x86_64-linux-gnu)
-  [[ -x ${emulator[0]} ]] || fail "the kit has no emulator for this machine"
+  [[ $(uname -m) == x86_64 ]] || fail "the library is for x86-64, and the toolchain has no emulator for $(uname -m): name standin, where a script takes it"
 }
 
 # compile SOURCE...: an object of each in the flavour's folder, two at a time, where the source or a header is newer.
@@ -67,7 +60,7 @@ compile() {
 # may be C.
 build_example() {
   local source=${2:-$root/examples/$1.c}
-  "${compiler%g++}gcc" -I"$root/include" -std=c99 -pedantic -Wall -Wextra -Werror "${OPTIMIZE:--O2}" -c -o "$out/$flavour/example_$1.o" "$source" ||
+  gcc -I"$root/include" -std=c99 -pedantic -Wall -Wextra -Werror "${OPTIMIZE:--O2}" -c -o "$out/$flavour/example_$1.o" "$source" ||
     fail "${source#"$root"/} did not compile"
   link "example_$1" "example_$1" calls
 }
@@ -89,5 +82,5 @@ link() {
 run() {
   local program=$1
   shift
-  "${emulator[@]}" "$out/$flavour/$program" "$@"
+  "$out/$flavour/$program" "$@"
 }

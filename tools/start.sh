@@ -1,4 +1,4 @@
-# Sourced by judge and night: what starts a proved program, the copy of a plan file that it reads, and the sentences that both say. Works on x86-64 and, under the toolchain's emulator, on Arm.
+# Sourced by judge and night: what starts a proved program, the copy of a plan file that it reads, and the sentences that both say. Works on x86-64, which today's toolchain builds for.
 # Whoever sources it has set `here`, where the repository lies, and `name`, the command that speaks.
 
 say() { printf '%s: %s\n' "$name" "$*" >&2; }
@@ -24,12 +24,14 @@ keep() {
 
 # build PROGRAM: proves and builds it where it is not there, or older than the source.
 build() {
-  local program=$here/target/bin/$1 log
+  local program=$here/target/bin/$1 log machine
   if ! command -v rt >/dev/null 2>&1; then say "the Rattle toolchain's command rt is not on the PATH"; exit 2; fi
+  machine=$(uname -m)
+  if [ "$machine" != x86_64 ]; then say "the program is for x86-64, and the toolchain has no emulator for $machine"; exit 2; fi
   if [ -x "$program" ] && [ -z "$(find "$here/crates" -newer "$program" -path '*/src/*' -print -quit)" ]; then return; fi
-  say "proving the library and building the program; the first time this takes up to ten minutes"
+  say "proving the library and building the program; the first time this takes a while"
   log=$(mktemp)
-  if ! (cd "$here" && rt check "$1") >"$log" 2>&1; then
+  if ! "$here/tools/build" program "$1" >"$log" 2>&1; then
     say "the program was not built; the last lines of the build:"
     tail -n 5 "$log" >&2
     rm -f "$log"
@@ -41,18 +43,9 @@ build() {
 }
 
 # prepare PROGRAM: builds it and leaves in `run` the words that run it, on standard input and output.
-# The toolchain's own C library runs the program, and on another processor than x86-64 its emulator.
 prepare() {
-  local kit tools
   build "$1"
-  kit=$(dirname "$(dirname "$(rt doc)")")
-  tools=$kit/toolchain
-  [ "$(uname -m)" = x86_64 ] || tools=$kit/on/$(uname -m)/toolchain
-  run=("$tools/lib/ld-linux-x86-64.so.2" --library-path "$tools/lib" "$here/target/bin/$1")
-  if [ "$(uname -m)" != x86_64 ]; then
-    if [ ! -x "$tools/bin/qemu-x86_64" ]; then say "the program is for x86-64, and the toolchain has no emulator for $(uname -m)"; exit 2; fi
-    run=("$tools/bin/qemu-x86_64" "${run[@]}")
-  fi
+  run=("$here/target/bin/$1")
 }
 
 # What a verdict means, for people.

@@ -1,4 +1,4 @@
-// The calls as C calls them (include/post.h). An answer passes as one 64-bit number.
+// The calls as C has them: an answer passes as one 64-bit number. The static library `post_c` exports each under its name here.
 ghost use Rattle.std.specs.Prelude.{◌≡◌, min};
 ghost use Rattle.rules.specs.Plan.{version1};
 ghost use Rattle.rules.specs.Calls.{Judged, Checked, Timed, Added};
@@ -30,45 +30,35 @@ pub fn packed(a: Answer) -> u64
 }
 
 // Sound.
-#[unsafe(no_mangle)]
-pub extern "C" fn post_sound(file: &[u8]) -> u64
+pub fn post_sound(file: &[u8]) -> u64
     ensures { result ≡ packed_of (file_answer file.now) }
 {
     packed(sound(file))
 }
 
 // Check.
-#[unsafe(no_mangle)]
-pub extern "C" fn post_check(file: &[u8], strict: &[i32], open: &[i32]) -> u64
+pub fn post_check(file: &[u8], strict: &[i32], open: &[i32]) -> u64
     ensures { Packed (Checked version1 (file_answer file.now) (plan_of file.now) strict.now «open».now) result }
 {
     packed(check(file, strict, open))
 }
 
 // Judge.
-#[unsafe(no_mangle)]
-pub extern "C" fn post_judge(file: &[u8], strict: &mut [i32], open: &mut [i32]) -> u64
+pub fn post_judge(file: &[u8], strict: &mut [i32], open: &mut [i32]) -> u64
     ensures { Packed (λ a. Judged version1 (file_answer file.now) (plan_of file.now) strict.old «open».old a strict.new «open».new) result }
 {
     packed(judge(file, strict, open))
 }
 
 // Earliest.
-#[unsafe(no_mangle)]
-pub extern "C" fn post_earliest(
-    file: &[u8],
-    strict: &mut [i32],
-    open: &mut [i32],
-    times: &mut [i32],
-) -> u64
+pub fn post_earliest(file: &[u8], strict: &mut [i32], open: &mut [i32], times: &mut [i32]) -> u64
     ensures { Packed (λ a. Timed version1 (file_answer file.now) (plan_of file.now) strict.old «open».old times.old a strict.new «open».new times.new) result }
 {
     packed(earliest(file, strict, open, times))
 }
 
 // Add.
-#[unsafe(no_mangle)]
-pub extern "C" fn post_add(
+pub fn post_add(
     file: &[u8],
     x: u32,
     y: u32,
@@ -83,8 +73,7 @@ pub extern "C" fn post_add(
 }
 
 // Write. In C `short` and `long` are no names.
-#[unsafe(no_mangle)]
-pub extern "C" fn post_write(
+pub fn post_write(
     n: u32,
     from: &[u32],
     to: &[u32],
@@ -101,8 +90,7 @@ pub extern "C" fn post_write(
 }
 
 // Reasons.
-#[unsafe(no_mangle)]
-pub extern "C" fn post_reasons(
+pub fn post_reasons(
     file: &[u8],
     kinds: &mut [u32],
     froms: &mut [u32],
@@ -118,8 +106,7 @@ pub extern "C" fn post_reasons(
 }
 
 // Rests: a number, no answer.
-#[unsafe(no_mangle)]
-pub extern "C" fn post_rests(kinds: &[u32], firsts: &[u32], seconds: &[u32], line: u32) -> u32
+pub fn post_rests(kinds: &[u32], firsts: &[u32], seconds: &[u32], line: u32) -> u32
     ensures { result ≡ min (rests_on kinds.now firsts.now seconds.now line) largest }
 {
     rests(kinds, firsts, seconds, line)

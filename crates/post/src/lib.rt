@@ -16,13 +16,17 @@ ghost use Rattle.plan.specs.File.{file_answer};
 pub use adding::add;
 use answers::accepted;
 use closed::closed;
-pub use faces::{post_add, post_check, post_earliest, post_judge, post_sound, post_write};
+pub use faces::{
+    post_add, post_check, post_earliest, post_judge, post_reasons, post_rests, post_sound,
+    post_write,
+};
 pub use judging::judge;
 use plan::head;
 pub use plan::sound;
 use rules::Answer;
 pub use rules::Side;
 pub use timing::earliest;
+pub use word_faces::{post_both, post_bounded, post_reach, post_reach_add};
 pub use writing::write;
 
 // Check: whether two tables are closed for a plan file. It writes nothing.
