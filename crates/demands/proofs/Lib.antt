@@ -1,4 +1,4 @@
--- The three demands hold: demand1, demand2, demand3. So do the laws of the pair: pair-laws.
+-- The three demands hold: demand1, demand2, demand3. So do the laws of the pair: pair_laws.
 pub mod FileCodes
 pub mod Demand1
 pub mod Demand2
