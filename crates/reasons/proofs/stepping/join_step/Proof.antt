@@ -1,9 +1,7 @@
 -- `stepping::join_step` meets its contract: the end of the row, or the next join. Assumes nothing.
-use Prim.Native.Nat.{◌≤◌, ◌<◌}
-use mathlib.Core.Path.{◌≡◌, subst}
+use Prim.Native.Nat.{◌<◌}
 use native.Mathlib.Omega.{arith}
 use borrow.Author.Rules.{rules}
-use Rattle.offers.specs.Drafts.{NextJoin}
 use Rattle.reasons.proofs.StepLaws.{join_none_left, join_one_left, joins_part, joins_kind}
 use Rattle.reasons.proofs.stepping.join_step.Statement.{statement}
 use Rattle.reasons.proofs.stepping.join_step.Tie as tie

@@ -34,8 +34,7 @@ work_through-given-requires c =
     let r = ready_in_range c.args.file.now c.args.n c.args.m c.args.k c.requires.0 in
     let lent = columns c.args.kinds.now c.args.froms.now c.args.tos.now c.args.weights.now c.args.firsts.now c.args.seconds.now in
     let before = c.work_through-before.ensures in
-    let one = before.2 [] lent (begun_none e r c.begin.ensures.0) in
-    (
+    let one = before.2 [] lent (begun_none e r c.begin.ensures.0) in (
       omega arith,
       omega arith,
       omega arith,
@@ -52,8 +51,7 @@ returns-then-given c =
     let before = c.work_through-before.ensures in
     let one = before.2 [] lent (begun_none e r c.begin.ensures.0) in
     let given = c.work_through-given.ensures in
-    let two = given.2 (before_links (plan_of c.args.file.now)) lent (begun_before e r one c.if-before.false) in
-    (
+    let two = given.2 (before_links (plan_of c.args.file.now)) lent (begun_before e r one c.if-before.false) in (
       kept_trans (kept_trans c.begin.ensures.1 before.0) given.0,
       same_trans before.1 given.1,
       given_ended e r two c.if-given.true,
@@ -67,8 +65,7 @@ sweep_on-requires c =
     let before = c.work_through-before.ensures in
     let one = before.2 [] lent (begun_none e r c.begin.ensures.0) in
     let given = c.work_through-given.ensures in
-    let two = given.2 (before_links (plan_of c.args.file.now)) lent (begun_before e r one c.if-before.false) in
-    (
+    let two = given.2 (before_links (plan_of c.args.file.now)) lent (begun_before e r one c.if-before.false) in (
       before_counted e r one,
       c.requires.0,
       same_roomy (same_trans before.1 given.1) c.requires.2,
@@ -84,8 +81,7 @@ returns c =
     let one = before.2 [] lent (begun_none e r c.begin.ensures.0) in
     let given = c.work_through-given.ensures in
     let two = given.2 (before_links (plan_of c.args.file.now)) lent (begun_before e r one c.if-before.false) in
-    let swept = c.sweep_on.ensures in
-    (
+    let swept = c.sweep_on.ensures in (
       kept_trans (kept_trans (kept_trans c.begin.ensures.1 before.0) given.0) swept.0,
       same_trans (same_trans before.1 given.1) swept.1,
       swept.2 lent (given_swept e r two c.if-given.false),
