@@ -20,6 +20,7 @@ pub record Place {A : Type 0} (at : ℕ → A) (many : ℕ) (x : A) : Type 0 whe
   pub is : at number ≡ x
 
 member_place : {A : Type 0} (d : A) (l : List A) {x : A} → Memᴰ x l → Place (λ i. get_or l i d) (length l) x
+member_place {A = A} d [] {x = x} x3 = elim x3 [ ]
 member_place d (y ∷ l) (Memᴰ.head e) = record { number = 0; within = omega arith; is = sym e }
 member_place d (y ∷ l) {x} (Memᴰ.tail m) =
     let k : Place (λ i. get_or l i d) (length l) x = member_place d l m in

@@ -1,7 +1,7 @@
 -- The steps of each part of the working-out are the item's; and how far weights reach and how many lines there may be. Assumes nothing.
 use mathlib.Core.Path.{◌≡◌, refl}
 use mathlib.Core.List.{List}
-use Prim.Native.Nat.{ℕ, zero, suc, ◌+◌, ◌*◌, ◌≤◌, ◌<◌}
+use Prim.Native.Nat.{ℕ, ◌+◌, ◌*◌, ◌≤◌, ◌<◌}
 use lib.ListN.{length}
 use lib.IntN.{ℤ, pos, neg_ℤ}
 use Rattle.rules.specs.declared.Side.{Side}
@@ -9,7 +9,7 @@ use Rattle.rules.specs.Plan.{Plan}
 use Rattle.rules.specs.Cells.{num, ◌≤ᶜ◌}
 use lib.Signed.{◌≤ℤ◌}
 use Rattle.chain.specs.Lines.{Line, cells}
-use Rattle.chain.specs.Reasons.{try, each, limit_of, link_of, start_offer, limit_offer, link_offer, longest_at, lower_case_at, strict_offer, open_offer, lower_offer, upper_offer, starts, limits, links, strict_joins, lowers, uppers, open_joins}
+use Rattle.chain.specs.Reasons.{starts, limits, links, strict_joins, lowers, uppers, open_joins}
 pub use Rattle.chain.specs.Places.{Steps, pass, part, start_steps, limit_steps, link_steps, strict_steps, lower_steps, upper_steps, open_steps}
 
 -- they are the item's

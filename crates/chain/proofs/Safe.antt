@@ -5,7 +5,7 @@ use mathlib.Core.Bool.{false}
 use mathlib.Core.List.{List, []}
 use Prim.Native.Nat.{ℕ, ◌≤◌, ◌<◌}
 use lib.ListN.{length}
-use Rattle.rules.specs.Plan.{Plan, Ranges}
+use Rattle.rules.specs.Plan.{Plan}
 use Rattle.chain.specs.Lines.{Line}
 use Rattle.chain.specs.Reasons.{ended, starts, before_links, strict_joins, lowers, uppers, sweeps}
 use Rattle.chain.proofs.Places.{Steps, part, start_steps, limit_steps, link_steps, strict_steps, lower_steps, upper_steps, open_steps, Small}

@@ -14,15 +14,16 @@ use Rattle.chain.proofs.CellOrder.{number_le}
 
 module _ (E : ℕ → ℕ → ℤ → Type 0) (n : ℕ) (T : Table) (ends : (x y : ℕ) (w : ℤ) → E x y w → (x < n) × (y < n))
     (zeros : (x : ℕ) → x < n → T x x ≡ num (pos zero)) (under_walk : (x z : ℕ) (t : ℤ) → x < n → z < n → Walk E x z t → AtMost (T x z) t) where
+  -- a walk with a negative total has an edge, so it starts at a point
+  negative_start : {x y : ℕ} {t : ℤ} → Walk E x y t → t <ℤ pos zero → x < n
+  negative_start stay h = absurd (omega (ints, h))
+  negative_start {x} (step {y} {v} e k) h = (ends x y v e).0
+
   none_negative : NegativeWalk E → ⊥
-  none_negative m = by m.walk m.negative
-    where
-      by : {x : ℕ} {t : ℤ} → Walk E x x t → t <ℤ pos zero → ⊥
-      by stay h = omega (ints, h)
-      by {x} {t} (step {y} {v} e k) h =
-          let hx : x < n = (ends x y v e).0 in
-          let l : pos zero ≤ℤ t = number_le (by_at_most (under_walk x x t hx hx (step e k))) (zeros x hx) in
-          omega (ints, h, l)
+  none_negative m =
+      let hx : m.at < n = negative_start m.walk m.negative in
+      let l : pos zero ≤ℤ m.total = number_le (by_at_most (under_walk m.at m.at m.total hx hx m.walk)) (zeros m.at hx) in
+      omega (ints, m.negative, l)
 
   pub short_walk : {x z : ℕ} {t : ℤ} → x < n → Walk E x z t → Short E n x z t
   short_walk hx k = ⊎_elim (λ m. absurd (none_negative m)) (λ h. h) (shorten E n ends hx k)

@@ -1,13 +1,13 @@
 -- Tries one after another: what each of them keeps all of them keep, and once the list has ended nothing is added. Assumes nothing.
 use mathlib.Core.Path.{◌≡◌, refl, sym, ap, ◌∙◌}
-use mathlib.Core.Bool.{Bool, true, false, cond, true≢false}
-use mathlib.Core.List.{List, [], ◌∷◌}
+use mathlib.Core.Bool.{Bool, true, false, true≢false}
+use mathlib.Core.List.{List}
 use Prim.Native.Nat.{ℕ, zero, suc, ◌≤◌, ◌<◌}
 use native.Mathlib.Nat.{eq-or-lt_of_le}
 use native.Mathlib.Omega.{arith}
 use mathlib.Core.Logic.{⊎_elim}
 use Rattle.chain.specs.Lines.{Line}
-use Rattle.chain.specs.Reasons.{Offer, nothing, line, write, ended, try, each}
+use Rattle.chain.specs.Reasons.{Offer, ended, try, each}
 
 -- a step that adds nothing to a list that has ended
 abbrev pub Stops : (List Line → List Line) → Type 0

@@ -1,6 +1,6 @@
 -- Document 02, item 4: the lines of a reason list, and a pair's best line so far. A list so far is held with its newest line first, so the number of a line
 -- is how many lines stand after it here. Assumes nothing.
-use Rattle.std.specs.Prelude.{Bool, true, false, not, cond, ◌&&◌, List, [], ◌∷◌, ℕ, zero, eqb, length, ℤ, pos, neg_ℤ}
+use Rattle.std.specs.Prelude.{Bool, true, not, cond, ◌&&◌, List, [], ◌∷◌, ℕ, zero, eqb, length, ℤ, pos, neg_ℤ}
 use Rattle.std.specs.Int.Signed.{lt_z}
 use Rattle.rules.specs.declared.Side.{Side}
 use Rattle.rules.specs.declared.Side.TheVariants.{Strict, Open}

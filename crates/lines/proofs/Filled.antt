@@ -5,7 +5,7 @@ use mathlib.Core.List.{List}
 use Prim.Native.Nat.{ℕ, zero, suc, ◌≤◌, ◌<◌}
 use native.Mathlib.Nat.{eq-or-lt_of_le, le_of_suc-le-suc}
 use native.Mathlib.Omega.{arith}
-use lib.ListN.{length, get_or, set, length-set}
+use lib.ListN.{length, get_or, length-set}
 use lib.Seq.{get_or-set_same, get_or-set_other}
 use Rattle.lines.specs.declared.Line.{Line}
 use Rattle.lines.specs.Reads.{no_line, filled}
@@ -16,6 +16,7 @@ module _ (line : ℕ → Line) where
   length_filled (suc n) lines = length-set (filled line n lines) n _ ∙ length_filled n lines
 
   pub filled_new : (n : ℕ) (lines : List Line) (i : ℕ) → n ≤ length lines → i < n → get_or (filled line n lines) i no_line ≡ line i
+  filled_new zero lines i h l = elim l [ ]
   filled_new (suc n) lines i h l =
       ⊎_elim
       (λ e. rw e (get_or-set_same (filled line n lines) n _ no_line (rw (length_filled n lines) (omega arith))))

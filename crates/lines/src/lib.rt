@@ -1,6 +1,5 @@
 // A reason list as a lent slice of line structs, and thin readers of it (document 02, item 4).
-// The borrow checker covers no function with a reference to structs, so `line_at`, `put_line` and `gather` are walked by hand, and are thin; `line_of` and
-// `counted`, which read the six lists of fields that a list of reasons is written to, are covered.
+// `line_of` and `counted` read the six lists of fields that a list of reasons is written to.
 #![tactic(auto)]
 
 ghost use Rattle.std.specs.Prelude.{◌≡◌, min, set};

@@ -1,8 +1,8 @@
 -- What the walks through limits and links cite: a limit and a link as they were read, what Lower and Upper offer from cells as they were read. Assumes nothing.
-use mathlib.Core.Path.{◌≡◌, refl, sym, ap, ◌∙◌, subst}
+use mathlib.Core.Path.{◌≡◌, refl, sym, ap, ◌∙◌}
 use mathlib.Core.Bool.{Bool, true, false, cond, true≢false}
 use mathlib.Core.List.{List}
-use Prim.Native.Nat.{ℕ, zero, suc, ◌+◌, ◌*◌, ◌≤◌, ◌<◌}
+use Prim.Native.Nat.{ℕ, ◌≤◌, ◌<◌}
 use native.Mathlib.Omega.{arith}
 use lib.ListN.{get_or}
 use lib.IntN.{ℤ, pos, neg_ℤ, ◌+ℤ◌}
@@ -14,22 +14,22 @@ use Rattle.whole.proofs.Order.{ints, neg}
 use Rattle.whole.proofs.Bits.{signed}
 use Rattle.rules.specs.declared.Side.TheVariants.{Strict}
 use Rattle.rules.specs.Plan.{Limit, Link, version1, LimitInRange, LinkInRange}
-use Rattle.rules.specs.Edges.{spread, upper_weight}
-use Rattle.rules.specs.Cells.{Cell, mark, num, lowered, uppered}
+use Rattle.rules.specs.Edges.{spread}
+use Rattle.rules.specs.Cells.{mark, num, lowered, uppered}
 use Rattle.rules.proofs.Cells.{same_number}
-use Rattle.cell.specs.Steps.{adding, roomy, cell32, cell64, number_of, is_mark}
+use Rattle.cell.specs.Steps.{adding, cell32, cell64, is_mark}
 use Rattle.cell.proofs.CellMethods.{number_is}
 use Rattle.cell.proofs.StoredCells.{number_of_lem}
-use Rattle.plan.specs.Layout.{limit_at, link_at}
+use Rattle.plan.specs.Layout.{limit_at}
 use Rattle.lowering.specs.Table.{Ready}
-use Rattle.lowering.proofs.Laws.ReadyFile.{limit_range, link_range}
+use Rattle.lowering.proofs.Laws.ReadyFile.{limit_range}
 use Rattle.lowering.proofs.Laws.FirstAsRead.{weight_cell}
-use Rattle.chain.specs.Lines.{Line, by_lower, by_upper, limit_line, Best, none, still, made, best, weight_of, line_of, cells}
-use Rattle.chain.specs.Reasons.{Offer, nothing, line, link_offer, lower_from, lower_offer, upper_from, upper_offer}
+use Rattle.chain.specs.Lines.{Line, by_lower, limit_line, Best, none, still, made, best, weight_of, line_of, cells}
+use Rattle.chain.specs.Reasons.{nothing, line, link_offer, lower_from, lower_offer, upper_from, upper_offer}
 use Rattle.chain.proofs.BestLines.{still_same}
 use Rattle.offers.specs.declared.Draft.{Draft}
-use Rattle.offers.specs.Work.{spot_of, weight_in, Standing}
-use Rattle.offers.specs.Drafts.{made_of, offer_of, Offers}
+use Rattle.offers.specs.Work.{spot_of, Standing}
+use Rattle.offers.specs.Drafts.{offer_of, Offers}
 use Rattle.offers.proofs.OfferLaws.{weight_read}
 
 -- ---- as read

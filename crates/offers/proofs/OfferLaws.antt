@@ -1,36 +1,34 @@
 -- What the walks through the offers cite: where cells stand in the work room, that a cell read is the weight of the pair's best, and what joins, Lower and Upper come
 -- to from such cells. Assumes nothing.
 use mathlib.Core.Path.{◌≡◌, refl, sym, ap, ◌∙◌, subst}
-use mathlib.Core.Bool.{Bool, true, false, cond, ◌&&◌, ◌||◌, true≢false}
+use mathlib.Core.Bool.{Bool, true, false, cond, ◌||◌, true≢false}
 use mathlib.Core.Logic.{◌⊎◌, inl, inr, ⊎_elim}
-use mathlib.Core.List.{List, [], ◌∷◌}
-use Prim.Native.Nat.{ℕ, zero, suc, ◌+◌, ◌*◌, ◌≤◌, ◌<◌}
+use mathlib.Core.List.{List, ◌∷◌}
+use Prim.Native.Nat.{ℕ, suc, ◌+◌, ◌*◌, ◌≤◌, ◌<◌}
 use native.Mathlib.Nat.{mul-le-mul, eq-or-lt_of_le}
 use lib.Arith.{digits_lt}
 use native.Mathlib.Omega.{arith}
 use lib.Dec.{eqb}
 use lib.ListN.{length, get_or}
 use lib.IntN.{ℤ, pos, ◌+ℤ◌, +ℤ_idl, +ℤ_idr}
-use lib.Signed.{lt_z, ◌≤ℤ◌, ≤ℤ_refl}
-use borrow.Author.Tests.{eqb-true, ne_eqb}
+use lib.Signed.{≤ℤ_refl}
+use borrow.Author.Tests.{ne_eqb}
 use Rattle.whole.proofs.Order.{ints}
-use Rattle.whole.proofs.Bits.{le_lt_z, lt_lt_z}
+use Rattle.whole.proofs.Bits.{le_lt_z}
 use Rattle.rules.specs.declared.Side.{Side}
 use Rattle.rules.specs.declared.Side.TheVariants.{Strict, Open}
-use Rattle.rules.specs.Plan.{Link}
-use Rattle.rules.specs.Edges.{spread, upper_weight}
-use Rattle.rules.specs.Cells.{Cell, mark, num, ◌+ᶜ◌, cell_of, lowered, uppered, Within}
+use Rattle.rules.specs.Cells.{Cell, mark, num, ◌+ᶜ◌, Within}
 use Rattle.cell.specs.Steps.{adding, roomy, cell64, belowᶜ, Stored, number_of}
 use Rattle.cell.proofs.CellMethods.{number_is, mark_is}
 use Rattle.rules.proofs.Cells.{same_number}
 use Rattle.cell.proofs.StoredCells.{within_stored, number_of_lem}
 use Rattle.cell.specs.declared.wide.Cell64.{Cell64}
-use Rattle.chain.specs.Lines.{Line, by_lower, by_upper, Best, none, still, made, beats, leads, best, weight_of, line_of, cells}
-use Rattle.chain.specs.Reasons.{Offer, nothing, line, always, side_of, write, ended, try, joined, lower_from, lower_offer, upper_from, upper_offer}
+use Rattle.chain.specs.Lines.{Line, Best, none, still, made, beats, best, weight_of, line_of, cells}
+use Rattle.chain.specs.Reasons.{Offer, nothing, line, always, side_of, write, try, joined}
 use Rattle.chain.proofs.BestLines.{still_same}
 use Rattle.offers.specs.declared.Draft.{Draft}
-use Rattle.offers.specs.Work.{spot_of, part_of, weight_in, Holds, Standing, Known}
-use Rattle.offers.specs.Drafts.{made_of, offer_of, added, Offers, Adds, Notable, Plain, Nothing, lowers_by, NextJoin}
+use Rattle.offers.specs.Work.{spot_of, part_of, weight_in, Standing, Known}
+use Rattle.offers.specs.Drafts.{made_of, offer_of, Offers, Adds, Plain, Nothing, lowers_by, NextJoin}
 
 -- ---- where cells stand
 

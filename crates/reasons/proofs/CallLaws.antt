@@ -1,9 +1,9 @@
 -- The answers of the call: from what the passes leave to its statement. Assumes nothing.
 use mathlib.Core.Path.{◌≡◌, refl, sym, ap, subst, ◌∙◌}
-use mathlib.Core.Logic.{◌≢◌, ⊎_elim}
-use mathlib.Core.Bool.{Bool, true, false, cond, true≢false}
+use mathlib.Core.Logic.{◌≢◌}
+use mathlib.Core.Bool.{Bool, true, false, cond}
 use mathlib.Core.List.{List, [], ◌∷◌}
-use Prim.Native.Nat.{ℕ, zero, suc, ◌+◌, ◌*◌, ◌-◌, ◌≤◌, ◌<◌, min}
+use Prim.Native.Nat.{ℕ, zero, ◌*◌, ◌≤◌, ◌<◌, min}
 use native.Mathlib.Omega.{arith}
 use lib.Dec.{eqb}
 use lib.ListN.{length}
@@ -19,14 +19,13 @@ use Rattle.plan.specs.declared.Header.{Header}
 use Rattle.lowering.specs.Table.{Ready}
 use Rattle.lowering.proofs.Laws.ReadyFile.{ready_points, ready_in_range}
 use Rattle.chain.specs.Lines.{Line, line_at}
-use Rattle.chain.specs.Reasons.{ended, ReasonList}
 use Rattle.chain.specs.Follows.{Follows, start, limit, longest, shortest, lower_case_rule, join, lower, upper, open_join_rule, Followed}
-use Rattle.chain.specs.Call.{Lists, room_of, Listed, Reasoned}
+use Rattle.chain.specs.Call.{Lists, room_of, Reasoned}
 use Rattle.chain.proofs.EveryLineFollows.{reasons_follow}
 use Rattle.chain.proofs.OneList.{one}
 use Rattle.reasons.specs.declared.Run.{Run}
 use Rattle.reasons.specs.Notes.{laid}
-use Rattle.reasons.specs.Working.{Roomy, Left, Worked}
+use Rattle.reasons.specs.Working.{Worked}
 use Rattle.reasons.proofs.ListLaws.{laid_none, laid_listed, room_roomy}
 use Rattle.reasons.proofs.WorkLaws.{kept_trans}
 

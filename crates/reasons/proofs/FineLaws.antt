@@ -1,5 +1,5 @@
 -- The working-out can go on at every place where a try is left: what is small enough by the theory of the list is near enough for the code. Assumes nothing.
-use mathlib.Core.Path.{◌≡◌, refl, sym, ap, subst, ◌∙◌}
+use mathlib.Core.Path.{◌≡◌, refl}
 use mathlib.Core.Bool.{false}
 use mathlib.Core.List.{List, []}
 use Prim.Native.Nat.{ℕ, zero, suc, ◌+◌, ◌*◌, ◌-◌, ◌≤◌, ◌<◌}
@@ -9,14 +9,13 @@ use lib.ListN.{length}
 use lib.IntN.{ℤ, pos, neg_ℤ}
 use lib.Signed.{◌≤ℤ◌}
 use Rattle.whole.proofs.Order.{ints, neg}
-use Rattle.rules.specs.declared.Side.{Side}
 use Rattle.rules.specs.declared.Side.TheVariants.{Strict}
 use Rattle.rules.specs.Plan.{Plan, version1, InRange}
 use Rattle.rules.specs.Cells.{Cell, mark, num, ◌≤ᶜ◌, Within}
 use Rattle.cell.specs.Steps.{roomy}
 use Rattle.chain.specs.Lines.{Line, cells}
 use Rattle.chain.specs.Reasons.{ended, each, starts, limits, links, before_links, given, strict_joins, lowers, uppers, open_joins, sweep, sweeps}
-use Rattle.chain.specs.Places.{Steps, pass, part}
+use Rattle.chain.specs.Places.{Steps, part}
 use Rattle.chain.proofs.Keeping.{Keeps, each_keeps}
 use Rattle.chain.proofs.OneList.{First, first_kept, sweeps_first}
 use Rattle.chain.proofs.BestWeights.{diagonal}

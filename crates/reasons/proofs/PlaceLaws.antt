@@ -1,20 +1,19 @@
 -- The places of the working-out: how often loops turn, and from one place to the next. Assumes nothing.
-use mathlib.Core.Path.{◌≡◌, refl, sym, ap, subst, ◌∙◌}
+use mathlib.Core.Path.{◌≡◌, refl, sym, ap, ◌∙◌}
 use mathlib.Core.Logic.{◌≢◌, ⊎_elim}
 use mathlib.Core.List.{List}
-use Prim.Native.Nat.{ℕ, zero, suc, ◌+◌, ◌*◌, ◌-◌, ◌≤◌, ◌<◌}
+use Prim.Native.Nat.{ℕ, zero, suc, ◌+◌, ◌-◌, ◌≤◌, ◌<◌}
 use native.Mathlib.Nat.{eq-or-lt_of_le}
 use native.Mathlib.Numerals.{add-one}
 use native.Mathlib.Omega.{arith}
 use lib.ListN.{length}
 use Rattle.rules.specs.Plan.{Plan, version1, InRange}
-use Rattle.plan.specs.Layout.{plan_of, limit_at, link_at, head_of}
+use Rattle.plan.specs.Layout.{plan_of}
 use Rattle.plan.proofs.SoundFile.{limits_length, links_length}
 use Rattle.lowering.specs.Table.{Ready}
 use Rattle.lowering.proofs.Laws.ReadyFile.{ready_points, ready_in_range}
 use Rattle.chain.specs.Lines.{Line}
 use Rattle.chain.specs.Reasons.{each}
-use Rattle.chain.specs.Places.{Steps, pass, part}
 use Rattle.reasons.specs.declared.Place.{Place}
 use Rattle.reasons.specs.Stands.{steps_of, outer_of, middle_of, inner_of, outer, middle, inner, through, after, Moves, Placed, left_of}
 

@@ -2,21 +2,20 @@
 use mathlib.Core.Path.{◌≡◌, refl, sym, ap, subst, ◌∙◌}
 use mathlib.Core.Logic.{◌≢◌, ◌⊎◌, inl, inr}
 use mathlib.Core.Bool.{Bool, true, false, cond, true≢false}
-use mathlib.Core.List.{List, [], ◌∷◌}
-use Prim.Native.Nat.{ℕ, zero, suc, ◌+◌, ◌*◌, ◌-◌, ◌≤◌, ◌<◌}
+use mathlib.Core.List.{List, ◌∷◌}
+use Prim.Native.Nat.{ℕ, zero, suc, ◌+◌, ◌≤◌, ◌<◌}
 use native.Mathlib.Nat.{add-zero, zero-add}
-use native.Mathlib.Numerals.{add-one}
 use native.Mathlib.Omega.{arith}
 use lib.Dec.{eqb}
-use lib.ListN.{length, get_or}
+use lib.ListN.{get_or}
 use lib.IntN.{ℤ, pos}
 use borrow.Author.Tests.{ne_eqb}
 use Rattle.whole.proofs.Order.{ints}
 use Rattle.rules.specs.declared.Side.{Side}
 use Rattle.rules.specs.declared.Side.TheVariants.{Strict, Open}
-use Rattle.rules.specs.Plan.{Limit, Link, Plan, version1, LimitInRange}
+use Rattle.rules.specs.Plan.{Limit, Plan, version1, LimitInRange}
 use Rattle.rules.specs.Cells.{Cell, mark, num, ◌+ᶜ◌}
-use Rattle.cell.specs.Steps.{adding, cell64, belowᶜ}
+use Rattle.cell.specs.Steps.{adding, belowᶜ}
 use Rattle.cell.proofs.CellMethods.{number_is}
 use Rattle.plan.specs.Layout.{records, plan_of, limit_at, link_at, head_of}
 use Rattle.lowering.specs.Table.{Ready}
@@ -24,12 +23,11 @@ use Rattle.lowering.proofs.Laws.ReadyFile.{ready_points, limit_range}
 use Rattle.chain.specs.Lines.{Line, start_line, limit_line, best, line_of, cells}
 use Rattle.chain.specs.Reasons.{Offer, nothing, line, always, side_of, write, ended, try, joined, strict_offer, open_offer, start_offer, limit_offer, link_offer, limit_of, link_of, lower_offer, upper_offer, lower_case_at, longest_at}
 use Rattle.offers.specs.declared.Draft.{Draft}
-use Rattle.offers.specs.Work.{part_of, weight_in, Standing, Known}
+use Rattle.offers.specs.Work.{part_of, Standing}
 use Rattle.offers.specs.Drafts.{made_of, offer_of, added, Offers, Adds, Notable, Plain, Nothing, lowers_by, NextJoin}
 use Rattle.offers.proofs.OfferLaws.{weight_read, join_none, join_some, is_written, nothing_plain}
 use Rattle.reasons.specs.declared.Place.{Place}
-use Rattle.reasons.specs.declared.Step.{Step}
-use Rattle.reasons.specs.Stands.{steps_of, outer, middle, inner, Moves, Placed, TryLeft, left_of}
+use Rattle.reasons.specs.Stands.{steps_of, outer, middle, inner, Moves, Placed, TryLeft}
 use Rattle.reasons.specs.Stepping.{Tried, within, beyond, Stepped, Joins, strict, weak}
 use Rattle.reasons.proofs.PlaceLaws.{move_step, move_inner, move_middle, move_part, move_passed, left_step, left_inner, left_middle, left_part}
 

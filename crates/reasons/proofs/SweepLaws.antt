@@ -11,7 +11,7 @@ use Rattle.rules.specs.Plan.{Plan, version1, InRange}
 use Rattle.rules.specs.Calls.{Kept}
 use Rattle.cell.specs.Steps.{roomy}
 use Rattle.chain.specs.Lines.{Line, beats, best}
-use Rattle.chain.specs.Reasons.{Offer, nothing, line, always, side_of, write, ended, each, try, start_offer, limit_offer, limit_of, starts, limits, links, before_links, given, strict_joins, lowers, uppers, open_joins, sweep, sweeps, ReasonList}
+use Rattle.chain.specs.Reasons.{Offer, nothing, line, always, side_of, write, ended, each, try, start_offer, limit_offer, limit_of, starts, limits, before_links, given, strict_joins, lowers, uppers, open_joins, sweep, sweeps}
 use Rattle.chain.specs.Call.{Lists}
 use Rattle.chain.proofs.Keeping.{Keeps, try_keeps, sweep_keeps, any_sweep, links_stop}
 use Rattle.offers.specs.Work.{Holds}

@@ -1,8 +1,8 @@
 -- The parts worked through: what is kept from step to step, and what is left at the end. Assumes nothing.
 use mathlib.Core.Path.{◌≡◌, refl, sym, ap, subst, ◌∙◌}
-use mathlib.Core.Logic.{◌≢◌, ◌⊎◌, inl, inr, ⊎_elim}
+use mathlib.Core.Logic.{◌≢◌, inl, inr, ⊎_elim}
 use mathlib.Core.Bool.{Bool, true, false, cond, true≢false, ◌&&◌}
-use mathlib.Core.List.{List, [], ◌∷◌}
+use mathlib.Core.List.{List, ◌∷◌}
 use Prim.Native.Nat.{ℕ, zero, suc, ◌+◌, ◌*◌, ◌-◌, ◌≤◌, ◌<◌}
 use native.Mathlib.Nat.{eq-or-lt_of_le}
 use native.Mathlib.Numerals.{add-one}
@@ -13,14 +13,13 @@ use lib.IntN.{ℤ, pos}
 use lib.Signed.{lt_z}
 use borrow.Author.Tests.{eqb-false, ne_eqb, eq-eqb}
 use Rattle.whole.proofs.Order.{ints}
-use Rattle.rules.specs.declared.Side.{Side}
 use Rattle.rules.specs.Plan.{Plan}
 use Rattle.rules.specs.Cells.{Cell, num}
 use Rattle.rules.specs.Calls.{Kept}
 use Rattle.cell.specs.Steps.{adding, roomy, cell64, belowᶜ}
 use Rattle.cell.proofs.CellMethods.{number_is}
 use Rattle.chain.specs.Lines.{Line}
-use Rattle.chain.specs.Reasons.{ended, each, try}
+use Rattle.chain.specs.Reasons.{ended, each}
 use Rattle.chain.specs.Places.{Steps, pass, part}
 use Rattle.chain.specs.Call.{Lists}
 use Rattle.chain.proofs.Tries.{Stops, try_stops, each_stops, each_rest}
@@ -34,8 +33,7 @@ use Rattle.reasons.specs.Stands.{steps_of, outer, middle, inner, through, after,
 use Rattle.reasons.specs.Stepping.{GoesOn, within, beyond, Stepped}
 use Rattle.reasons.specs.Notes.{taken_count, taken_work, taken_lists, closes_of, note_line, set_at, word, set_line, laid}
 use Rattle.reasons.specs.Working.{Roomy, SameLengths, Fine, Begun, Begins, Left}
-use Rattle.reasons.proofs.NoteLaws.{noted, note_length, note_beyond}
-use Rattle.reasons.proofs.ListLaws.{laid_room}
+use Rattle.reasons.proofs.NoteLaws.{noted, note_beyond}
 
 -- ---- once the list has ended
 

@@ -1,5 +1,5 @@
 -- A line noted in the work room and in the lent lists, as functions of lists. Assumes nothing.
-use Rattle.std.specs.Prelude.{Bool, true, false, cond, ◌&&◌, List, [], ◌∷◌, ℕ, suc, ◌+◌, ◌%◌, eqb, ltb, length, set, ℤ, pos}
+use Rattle.std.specs.Prelude.{Bool, false, cond, ◌&&◌, List, [], ◌∷◌, ℕ, suc, ◌+◌, ◌%◌, eqb, ltb, length, set, ℤ, pos}
 use Rattle.rules.specs.declared.Side.TheVariants.{Strict}
 use Rattle.cell.specs.Steps.{cell64, belowᶜ}
 use Rattle.chain.specs.Lines.{Line, counts}

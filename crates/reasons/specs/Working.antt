@@ -1,18 +1,17 @@
 -- What the working-out of a reason list begins with and what it leaves. Assumes nothing.
-use Rattle.std.specs.Prelude.{◌≡◌, Bool, true, false, List, ℕ, ◌*◌, ◌-◌, ◌≤◌, ◌<◌, length, ℤ}
+use Rattle.std.specs.Prelude.{◌≡◌, false, List, ℕ, ◌≤◌, ◌<◌, length, ℤ}
 use Rattle.rules.specs.declared.Side.{Side}
 use Rattle.rules.specs.declared.Side.TheVariants.{Strict}
 use Rattle.rules.specs.Plan.{Plan}
 use Rattle.rules.specs.Cells.{Within}
-use Rattle.rules.specs.Calls.{Kept}
 use Rattle.cell.specs.Steps.{roomy}
 use Rattle.chain.specs.Lines.{Line, still, best, cells}
-use Rattle.chain.specs.Reasons.{ended, before_links, sweeps, ReasonList}
+use Rattle.chain.specs.Reasons.{ended, sweeps, ReasonList}
 use Rattle.chain.specs.Call.{Lists}
 use Rattle.offers.specs.Work.{Holds}
 use Rattle.reasons.specs.declared.Place.{Place}
 use Rattle.reasons.specs.declared.Run.{Run}
-use Rattle.reasons.specs.Stands.{outer, middle, inner, through, after}
+use Rattle.reasons.specs.Stands.{outer, middle, inner, after}
 use Rattle.reasons.specs.Notes.{laid}
 
 -- so many lines fit into each of the six

@@ -70,8 +70,8 @@ pub fn set_line(
     at: u64,
     d: Draft,
 )
-    requires { Roomy room (record { kinds = kinds.now; froms = froms.old; tos = tos.old; weights = weights.old; firsts = firsts.old; seconds = seconds.old }) }
-    ensures { record { kinds = kinds.exit.now; froms = froms.new; tos = tos.new; weights = weights.new; firsts = firsts.new; seconds = seconds.new } ≡ set_line room at (made_of d) (record { kinds = kinds.entry.now; froms = froms.old; tos = tos.old; weights = weights.old; firsts = firsts.old; seconds = seconds.old }) }
+    requires { Roomy room (record { kinds = kinds.old; froms = froms.old; tos = tos.old; weights = weights.old; firsts = firsts.old; seconds = seconds.old }) }
+    ensures { record { kinds = kinds.new; froms = froms.new; tos = tos.new; weights = weights.new; firsts = firsts.new; seconds = seconds.new } ≡ set_line room at (made_of d) (record { kinds = kinds.old; froms = froms.old; tos = tos.old; weights = weights.old; firsts = firsts.old; seconds = seconds.old }) }
 {
     if at >= room {
         return;

@@ -5,7 +5,7 @@ use Rattle.offers.proofs.given.limit_draft.Tie as tie
 
 returns : tie.Need-returns
 returns c =
-    let l = c.before.before.limit-of in
+    let l = c.before.before.limit_of-l in
     let s = c.before.before.before.before in
     limit_made s.args.i (limit_of l.result) _ c.widened.result.v l.ensures
     (limit_weight s.requires.1 s.args.i s.requires.0 l.ensures c.widened.result.v c.widened.ensures)

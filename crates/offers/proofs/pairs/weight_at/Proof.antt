@@ -8,4 +8,4 @@ weight_at_spec =
     tie.close
     (tie.spec (λ c κs. search rules)
     (λ c κs. let p = c.before.requires in omega (arith, spot_below p.0 p.1 p.3, c.spot.ensures))
-    (λ c. rw (← c.before.spot.ensures) c.Cell-at.ensures))
+    (λ c. rw (← c.before.spot.ensures) c.cell_at.ensures))

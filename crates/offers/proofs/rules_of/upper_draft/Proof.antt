@@ -5,38 +5,38 @@ use Rattle.offers.proofs.rules_of.upper_draft.Statement.{statement}
 use Rattle.offers.proofs.rules_of.upper_draft.Tie as tie
 
 -- the link is in range
-range : (c : tie.After-link-of) → LinkInRange version1 c.before.before.args.n (link_of c.link_of.result)
-range c = link_read c.before.before.requires.3 c.before.before.args.i c.before.before.requires.1 c.link_of.ensures
+range : (c : tie.After-link_of-a) → LinkInRange version1 c.before.before.args.n (link_of c.link_of-a.result)
+range c = link_read c.before.before.requires.3 c.before.before.args.i c.before.before.requires.1 c.link_of-a.ensures
 
-returns : tie.Need-returns
+returns : tie.Need-returns-then-x-a
 returns c =
     let s = c.before.before.before.before.before in (
-      rw (← c.before.before.before.link_of.ensures)
-          (upper_own s.args.n s.args.work.now _ s.args.x (link_of c.before.before.before.link_of.result) c.no-draft.result c.before.if1.true
-          c.no-draft.ensures.kind),
-      nothing_plain s.requires.0 c.no-draft.ensures,
+      rw (← c.before.before.before.link_of-a.ensures)
+          (upper_own s.args.n s.args.work.now _ s.args.x (link_of c.before.before.before.link_of-a.result) c.no_draft.result c.before.if-x-a.true
+          c.no_draft.ensures.kind),
+      nothing_plain s.requires.0 c.no_draft.ensures,
     )
 
-returns_2 : tie.Need-returns-2
+returns_2 : tie.Need-returns-then-is_mark
 returns_2 c =
     let s = c.before.before.before.before.before.before.before.before.before in
-    let a = link_of c.before.before.before.before.before.before.before.link_of.result in (
-      rw (← c.before.before.before.before.before.before.before.link_of.ensures)
-          (upper_none s.args.n s.args.work.now _ s.args.x a c.before.before.before.before.before.if1.false s.requires.0 (range c.before.before.before.before.before.before.before).con
-          c.before.before.before.before.weight-at.result.v c.before.before.before.upper.result.v c.before.before.before.before.weight-at.ensures (c.before.before.before.upper.ensures a refl refl) c.no-draft2.result
-          (mark-read c.before.before.is_mark_lem.ensures c.before.if2.true) c.no-draft2.ensures.kind),
-      nothing_plain s.requires.0 c.no-draft2.ensures,
+    let a = link_of c.before.before.before.before.before.before.before.link_of-a.result in (
+      rw (← c.before.before.before.before.before.before.before.link_of-a.ensures)
+          (upper_none s.args.n s.args.work.now _ s.args.x a c.before.before.before.before.before.if-x-a.false s.requires.0 (range c.before.before.before.before.before.before.before).con
+          c.before.before.before.before.weight_at.result.v c.before.before.before.upper-w.result.v c.before.before.before.before.weight_at.ensures (c.before.before.before.upper-w.ensures a refl refl) c.no_draft-then-is_mark.result
+          (mark-read c.before.before.is_mark.ensures c.before.if-is_mark.true) c.no_draft-then-is_mark.ensures.kind),
+      nothing_plain s.requires.0 c.no_draft-then-is_mark.ensures,
     )
 
-returns_3 : tie.Need-returns-3
+returns_3 : tie.Need-returns
 returns_3 c =
     let s = c.before.before.before.before.before.before.before.before.before in
-    let a = link_of c.before.before.before.before.before.before.before.link_of.result in
-    let number = no_mark adding.mark c.before.before.before.upper.result.v c.before.before.is_mark_lem.ensures c.before.if2.false in (
-      rw (← c.before.before.before.before.before.before.before.link_of.ensures)
-          (upper_some s.args.n s.args.work.now _ s.args.x a c.before.before.before.before.before.if1.false s.requires.0 (range c.before.before.before.before.before.before.before).con
-          c.before.before.before.before.weight-at.result.v c.before.before.before.upper.result.v c.before.before.before.before.weight-at.ensures (c.before.before.before.upper.ensures a refl refl) _
-          number refl refl refl refl refl c.line_at_lem.ensures),
+    let a = link_of c.before.before.before.before.before.before.before.link_of-a.result in
+    let number = no_mark adding.mark c.before.before.before.upper-w.result.v c.before.before.is_mark.ensures c.before.if-is_mark.false in (
+      rw (← c.before.before.before.before.before.before.before.link_of-a.ensures)
+          (upper_some s.args.n s.args.work.now _ s.args.x a c.before.before.before.before.before.if-x-a.false s.requires.0 (range c.before.before.before.before.before.before.before).con
+          c.before.before.before.before.weight_at.result.v c.before.before.before.upper-w.result.v c.before.before.before.before.weight_at.ensures (c.before.before.before.upper-w.ensures a refl refl) _
+          number refl refl refl refl refl c.line_at.ensures),
       record { notable = record { from = s.requires.0; to = (range c.before.before.before.before.before.before.before).act; number = number }; ordinary = refl; strict = refl },
     )
 
@@ -48,7 +48,7 @@ upper_draft_spec =
     (λ c κs.
     let s = c.before.before.before.before.before in
     let l = range c.before.before.before in
-    (near_read s.requires.4 (inl refl) s.requires.0 l.con c.weight-at.ensures, (spans_fit l).short, (spans_fit l).long))
+    (near_read s.requires.4 (inl refl) s.requires.0 l.con c.weight_at.ensures, (spans_fit l).short, (spans_fit l).long))
     (λ c κs. search rules) (λ c κs. search rules) returns_2
     (λ c κs. let s = c.before.before.before.before.before.before.before.before in (s.requires.0, (range c.before.before.before.before.before.before).con, few s.requires.3, inl refl, s.requires.4))
     (λ c. search rules) (λ c. search rules) returns_3)

@@ -6,11 +6,11 @@ use Rattle.reasons.proofs.listing.room_of.Tie as tie
 returns : tie.Need-returns
 returns c =
     rw (
-      c.fewer6.ensures,
-      c.before.fewer5.ensures,
-      c.before.before.fewer4.ensures,
-      c.before.before.before.fewer3.ensures,
-      c.before.before.before.before.fewer2.ensures,
+      c.fewer-5.ensures,
+      c.before.fewer-room.ensures,
+      c.before.before.fewer-4.ensures,
+      c.before.before.before.fewer-3.ensures,
+      c.before.before.before.before.fewer-2.ensures,
       c.before.before.before.before.before.fewer.ensures,
     )
 

@@ -22,18 +22,18 @@ lists s =
       seconds = s.args.seconds.now;
     }
 
-returns : tie.Need-returns
+returns : tie.Need-returns-then-at-room
 unfolding lists
 returns c =
     let s = c.before in
-    sym (set_out s.args.room s.args.at (made_of s.args.d) (lists s) c.if1.true)
+    sym (set_out s.args.room s.args.at (made_of s.args.d) (lists s) c.if-at-room.true)
 
-returns_2 : tie.Need-returns-2
+returns_2 : tie.Need-returns
 unfolding lists
 returns_2 c =
     let s = c.before.before.before.before in
-    let w : to_z w64 (of_z w64 s.args.d.weight.v) ≡ s.args.d.weight.v = back (fit w64 s.args.d.weight.v c.before.before.struct_told.given.1.1.1.0.1.1.0.1) in
-    rw w (sym (set_in s.args.room s.args.at (made_of s.args.d) (lists s) (omega (arith, c.before.before.before.if1.false))))
+    let w : to_z w64 (of_z w64 s.args.d.weight.v) ≡ s.args.d.weight.v = back (fit w64 s.args.d.weight.v c.before.before.struct_told-1.given.1.1.1.0.1.1.0.1) in
+    rw w (sym (set_in s.args.room s.args.at (made_of s.args.d) (lists s) (omega (arith, c.before.before.before.if-at-room.false))))
 
 pub set_line_spec : {M : Type 1} → statement M
 set_line_spec =

@@ -1,7 +1,7 @@
 -- `places::middle` meets its contract, part by part. Assumes nothing.
 use native.Mathlib.Omega.{arith}
 use borrow.Author.Rules.{rules}
-use Rattle.reasons.proofs.PlaceLaws.{outer_else, middle_given, middle_else, inner_else}
+use Rattle.reasons.proofs.PlaceLaws.{middle_given, middle_else}
 use Rattle.reasons.proofs.places.middle.Statement.{statement}
 use Rattle.reasons.proofs.places.middle.Tie as tie
 

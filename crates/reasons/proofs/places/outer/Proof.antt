@@ -1,7 +1,6 @@
 -- `places::outer` meets its contract, part by part. Assumes nothing.
-use native.Mathlib.Omega.{arith}
 use borrow.Author.Rules.{rules}
-use Rattle.reasons.proofs.PlaceLaws.{outer_else, middle_given, middle_else, inner_else}
+use Rattle.reasons.proofs.PlaceLaws.{outer_else}
 use Rattle.reasons.proofs.places.outer.Statement.{statement}
 use Rattle.reasons.proofs.places.outer.Tie as tie
 

@@ -13,9 +13,9 @@ returns c =
     let first = filled.before.before.before in
     let cleared = first.before.before.before.before in
     let room = cleared.before.before.requires.1 in
-    let none = first.before.before.mark.ensures in (
-      begun room none cleared.clear.ensures first.fill.ensures filled.fill2.ensures crossed.diagonal.ensures c.before.diagonal2.ensures,
-      begun_kept room none cleared.clear.ensures first.fill.ensures filled.fill2.ensures crossed.diagonal.ensures c.before.diagonal2.ensures,
+    let none = first.before.before.mark-none.ensures in (
+      begun room none cleared.clear.ensures first.fill.ensures filled.fill-2.ensures crossed.diagonal.ensures c.before.diagonal-2.ensures,
+      begun_kept room none cleared.clear.ensures first.fill.ensures filled.fill-2.ensures crossed.diagonal.ensures c.before.diagonal-2.ensures,
     )
 
 pub begin_spec : {M : Type 1} → statement M
