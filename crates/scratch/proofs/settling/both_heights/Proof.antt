@@ -8,7 +8,7 @@ use Rattle.scratch.proofs.settling.both_heights.Tie as tie
 add_result : tie.Need-overflow_add-result
 unfolding adding
 add_result c =
-    let s = c.before.before.before.before in
+    let s = c in
     let cells = s.args.n * s.args.n in
     omega (
       arith,

@@ -12,16 +12,16 @@ decreases_loop file n m k t₀ last₀ t last = last
 
 returns_2 : tie.Need-returns-then-next-last invariant_loop decreases_loop
 returns_2 c =
-    let look = c.before.before.before.before in
-    let sweep = look.before.before.before in
-    let turn = sweep.before.before in
+    let look = c in
+    let sweep = look in
+    let turn = sweep in
     ended_yes (search) _ turn.loop-n.invariant (search) sweep.sweep.ensures (search) c.if-next-last.true
-    (look.both_fair.ensures.holds (c.before.before.before.if-not-both_fair.false))
+    (look.both_fair.ensures.holds (c.if-not-both_fair.false))
 
 loop_less : tie.Need-loop-n-smaller invariant_loop decreases_loop
 loop_less c =
-    let turn = c.before.before.before.before.before.before.before.before.before in
-    let falls : c.before.both_heights-next.result ≤ turn.loop-n.last = search sweeping_falls in
+    let turn = c in
+    let falls : c.both_heights-next.result ≤ turn.loop-n.last = search sweeping_falls in
     omega arith
 
 pub settle_spec : {M : Type 1} → statement M
@@ -33,7 +33,7 @@ settle_spec =
     (λ c κs. search)
     (λ c κs. search (few, sweeping_both))
     (λ c. search sweeping_length)
-    (λ c. search (ended_no, c.before.both_fair.ensures.fails, not-true))
+    (λ c. search (ended_no, c.both_fair.ensures.fails, not-true))
     (λ c κs. search (few, sweeping_both))
     (λ c. search sweeping_length)
     returns_2 loop_less
