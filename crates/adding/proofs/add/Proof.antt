@@ -7,26 +7,22 @@ use Rattle.adding.proofs.add.Statement.{statement}
 use Rattle.adding.proofs.add.Tie as tie
 
 -- the file's answer with the limit, whose weight is read back from its bits
-answered : (c : tie.After-sound-with)
+answered : (c : tie.After-sound_with-a)
     → let a = c.before.before.args in
-    c.sound-with.result ≡ add_answer a.file.now (record { from = a.x; to = a.y; weight = a.w })
-answered c = rw (back c.before.before.ranges.w) at c.sound-with.ensures
+    c.sound_with-a.result ≡ add_answer a.file.now (record { from = a.x; to = a.y; weight = a.w })
+answered c = rw (back c.before.before.ranges.w) at c.sound_with-a.ensures
 
 -- past the first test it is Done
-done : (c : tie.After-head)
+done : (c : tie.After-head-h)
     → let a = c.before.before.before.before.before.args in
     add_answer a.file.now (record { from = a.x; to = a.y; weight = a.w }) ≡ Done
 done c = search (is_accepted, answered c.before.before.before)
 
-add_to_requires : tie.Need-add-to-requires
-add_to_requires c κs =
-    let h = c.before.before.before.before.before.before.before in
-    rw (back h.before.before.before.before.before.ranges.w) (search (lent, done h))
+add_to_requires : tie.Need-add_to-requires
+add_to_requires c κs = rw (back c.ranges.w) (search (lent, done c.before.before.before.before.before.before.before))
 
-returns_5 : tie.Need-returns-5
-returns_5 c =
-    let lent = c.before.before.before.before.before.before.before.before in
-    rw (back lent.before.before.before.before.before.before.before.before.ranges.w) at c.before.before.before.add-to.ensures
+returns_5 : tie.Need-returns
+returns_5 c = rw (back c.ranges.w) at c.add_to.ensures
 
 pub add_spec : {M : Type 1} → statement M
 add_spec =
@@ -34,7 +30,7 @@ add_spec =
     (tie.spec (λ c κs. search rules) (λ c κs. search rules)
     (λ c. search (file_refused, answered c.before.before))
     (λ c κs. search rules) (λ c. search rules)
-    (λ c. omega (arith, cells_small _ ((add_exactly _ _).0 (done c.before)).0 _ c.before.head.ensures))
+    (λ c. omega (arith, cells_small _ ((add_exactly _ _).0 (done c.before)).0 _ c.before.head-h.ensures))
     (λ c. search (strict_short, done c.before.before))
     (λ c. search (open_short, done c.before.before.before))
     (λ c. search rules)

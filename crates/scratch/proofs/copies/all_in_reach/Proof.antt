@@ -1,5 +1,5 @@
 -- `copies::all_in_reach` meets its contract: every cell passed is in reach, and one that is not is shown. Assumes nothing.
-use Rattle.lowering.proofs.Common.{rules, ◌-◌, arith, not-true, version1, adding, CellWithin, Passed, none_yet, passed_all, within_more}
+use Rattle.lowering.proofs.Common.{rules, ◌-◌, arith, version1, adding, CellWithin, Passed, none_yet, passed_all, within_more}
 use Rattle.lowering.proofs.Common.{looked_yes, looked_no}
 use Rattle.scratch.proofs.copies.all_in_reach.Statement.{statement}
 use Rattle.scratch.proofs.copies.all_in_reach.Tie as tie
@@ -13,7 +13,7 @@ decreases_loop t count i₀ i = count - i
 returns : tie.Need-returns-then-not-in_reach invariant_loop decreases_loop
 returns c =
     let in_reach = c.before.in_reach in
-    let out = in_reach.ensures.fails (not-true in_reach.result c.if-not-in_reach.true) in
+    let out = in_reach.ensures.fails c.if-not-in_reach.true in
     let loop = c.before.before.before.before.loop-i in
     looked_no (record { index = loop.i; below = omega arith; out = rw (← c.before.before.cell_at.ensures) out })
 

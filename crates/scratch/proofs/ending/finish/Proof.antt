@@ -5,8 +5,7 @@ use Rattle.scratch.proofs.ending.finish.Tie as tie
 
 narrow_requires : tie.Need-narrow-requires
 narrow_requires c κs =
-    let s = c.before.before in
-    (omega (arith, s.requires.1), omega (arith, s.requires.2), λ i h. s.requires.4 i (omega arith))
+    (omega (arith, c.requires.1), omega (arith, c.requires.2), λ i h. c.requires.4 i (omega arith))
 
 pub finish_spec : {M : Type 1} → statement M
 finish_spec =

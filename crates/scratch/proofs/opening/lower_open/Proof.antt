@@ -6,9 +6,8 @@ use Rattle.scratch.proofs.opening.lower_open.Tie as tie
 
 returns : tie.Need-returns
 returns c =
-    let s = c.before.before.before in
-    let cells = s.args.n * s.args.n in
-    rest_back cells s.args.t-1.now (omega (arith, s.requires.3)) (rw (rest cells s.args.t-1.now) at c.before.lower_cell.ensures)
+    let cells = c.args.n * c.args.n in
+    rest_back cells c.args.t.now (omega (arith, c.requires.3)) (rw (rest cells c.args.t.now) at c.lower_cell.ensures)
 
 pub lower_open_spec : {M : Type 1} → statement M
 lower_open_spec =

@@ -1,5 +1,5 @@
 -- `settling::both_fair` meets its contract: one part is looked at after the other. Assumes nothing.
-use Rattle.lowering.proofs.Common.{inl, not-true, not-false, looked_no, looked_also, rules}
+use Rattle.lowering.proofs.Common.{inl, not-true, looked_no, looked_also, rules}
 use Rattle.scratch.proofs.ScratchParts.{half_room, front_length, rest}
 use Rattle.scratch.proofs.settling.both_fair.Statement.{statement}
 use Rattle.scratch.proofs.settling.both_fair.Tie as tie

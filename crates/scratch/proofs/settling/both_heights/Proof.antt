@@ -8,14 +8,13 @@ use Rattle.scratch.proofs.settling.both_heights.Tie as tie
 add_result : tie.Need-overflow_add-result
 unfolding adding
 add_result c =
-    let s = c.before.before.before.before in
-    let cells = s.args.n * s.args.n in
+    let cells = c.args.n * c.args.n in
     omega (
       arith,
-      square_le s.requires.0,
+      square_le c.requires.0,
       rw rest at c.height_all-2.ensures,
-      heights_most adding cells (strict_part s.args.n s.args.t.now) (sound_held s.requires.1.strict) cells (omega arith),
-      heights_most adding cells (open_part s.args.n s.args.t.now) (sound_held s.requires.1.weak) cells (omega arith),
+      heights_most adding cells (strict_part c.args.n c.args.t.now) (sound_held c.requires.1.strict) cells (omega arith),
+      heights_most adding cells (open_part c.args.n c.args.t.now) (sound_held c.requires.1.weak) cells (omega arith),
     )
 
 pub both_heights_spec : {M : Type 1} → statement M

@@ -1,5 +1,5 @@
 -- `settling::settle` meets its contract: some sweeps done, and the local is how far both tables can still fall, which is the measure. Assumes nothing.
-use Rattle.lowering.proofs.Common.{not-true, not-false, arith, ◌≤◌, link_at, few}
+use Rattle.lowering.proofs.Common.{arith, ◌≤◌, link_at, few}
 use Rattle.scratch.proofs.AddSweeps.{Sweeping, sweeping_none, sweeping_both, sweeping_length, sweeping_more, sweeping_falls, ended_no, ended_yes}
 use Rattle.scratch.proofs.settling.settle.Statement.{statement}
 use Rattle.scratch.proofs.settling.settle.Tie as tie
@@ -12,16 +12,12 @@ decreases_loop file n m k t₀ last₀ t last = last
 
 returns_2 : tie.Need-returns-then-next-last invariant_loop decreases_loop
 returns_2 c =
-    let look = c.before.before.before.before in
-    let sweep = look.before.before.before in
-    let turn = sweep.before.before in
-    ended_yes (search) _ turn.loop-n.invariant (search) sweep.sweep.ensures (search) c.if-next-last.true
-    (look.both_fair.ensures.holds (c.before.before.before.if-not-both_fair.false))
+    ended_yes (search) _ c.loop-n.invariant (search) c.sweep.ensures (search) c.if-next-last.true
+    (c.both_fair.ensures.holds c.if-not-both_fair.false)
 
 loop_less : tie.Need-loop-n-smaller invariant_loop decreases_loop
 loop_less c =
-    let turn = c.before.before.before.before.before.before.before.before.before in
-    let falls : c.before.both_heights-next.result ≤ turn.loop-n.last = search sweeping_falls in
+    let falls : c.both_heights-next.result ≤ c.loop-n.last = search sweeping_falls in
     omega arith
 
 pub settle_spec : {M : Type 1} → statement M
@@ -33,7 +29,7 @@ settle_spec =
     (λ c κs. search)
     (λ c κs. search (few, sweeping_both))
     (λ c. search sweeping_length)
-    (λ c. search (ended_no, c.before.both_fair.ensures.fails, not-true))
+    (λ c. search (ended_no, c.both_fair.ensures.fails))
     (λ c κs. search (few, sweeping_both))
     (λ c. search sweeping_length)
     returns_2 loop_less

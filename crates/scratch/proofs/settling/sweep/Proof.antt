@@ -6,9 +6,8 @@ use Rattle.scratch.proofs.settling.sweep.Tie as tie
 
 sweep_last_requires : tie.Need-sweep_last-requires
 sweep_last_requires c κs =
-    let under = c.before.before.open_under in
-    let s = c.before.before.before.before.before.before.before.before in
-    (s.requires.0, both_under s.requires.0 (search both_first) under.auto.0 under.ensures.0 under.ensures.1)
+    let under = c.open_under in
+    (c.requires.0, both_under c.requires.0 (search both_first) under.auto.t under.ensures.0 under.ensures.1)
 
 pub sweep_spec : {M : Type 1} → statement M
 sweep_spec =

@@ -6,9 +6,8 @@ use Rattle.scratch.proofs.settling.sweep_first.Tie as tie
 
 returns : tie.Need-returns
 returns c =
-    let s = c.before.before.before.before in
-    let done = c.before.sweep_strict in
-    front_back (s.args.n * s.args.n) s.args.t-1.now (half_room s.requires.1) done.auto.1.1.1.1.0 done.ensures
+    let done = c.sweep_strict in
+    front_back (c.args.n * c.args.n) c.args.t.now (half_room c.requires.1) done.auto.t done.ensures
 
 pub sweep_first_spec : {M : Type 1} → statement M
 sweep_first_spec =

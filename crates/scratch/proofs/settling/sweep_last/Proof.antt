@@ -6,14 +6,12 @@ use Rattle.scratch.proofs.settling.sweep_last.Tie as tie
 
 join_cases_requires : tie.Need-join_cases-requires
 join_cases_requires c κs =
-    let s = c.before.before in
-    (s.requires.0, rw (rest (s.args.n * s.args.n) s.args.t-1.now) s.requires.1.weak)
+    (c.requires.0, rw (rest (c.args.n * c.args.n) c.args.t.now) c.requires.1.weak)
 
 returns : tie.Need-returns
 returns c =
-    let s = c.before.before.before.before in
-    let cells = s.args.n * s.args.n in
-    rest_back cells s.args.t-1.now (half_room s.requires.1) (rw (rest cells s.args.t-1.now) at c.before.join_cases.ensures)
+    let cells = c.args.n * c.args.n in
+    rest_back cells c.args.t.now (half_room c.requires.1) (rw (rest cells c.args.t.now) at c.join_cases.ensures)
 
 pub sweep_last_spec : {M : Type 1} → statement M
 sweep_last_spec =

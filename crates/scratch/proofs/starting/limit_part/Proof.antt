@@ -6,13 +6,12 @@ use Rattle.scratch.proofs.starting.limit_part.Tie as tie
 
 returns : tie.Need-returns
 returns c =
-    let s = c.before.before.before in
-    let done = c.before.limit_cell in
-    front_back (s.args.n * s.args.n) s.args.t-1.now (omega (arith, s.requires.2)) done.auto.0 done.ensures
+    let done = c.limit_cell in
+    front_back (c.args.n * c.args.n) c.args.t.now (omega (arith, c.requires.2)) done.auto.t done.ensures
 
 pub limit_part_spec : {M : Type 1} → statement M
 limit_part_spec =
     tie.close
     (tie.spec (λ c. search rules) (λ c. search rules)
-    (λ c. front_length (c.before.args.n * c.before.args.n) c.before.args.t-1.now (omega (arith, c.before.requires.2)))
+    (λ c. front_length (c.args.n * c.args.n) c.args.t.now (omega (arith, c.requires.2)))
     (λ c κs. search rules) (λ c. search rules) returns)

@@ -6,9 +6,8 @@ use Rattle.scratch.proofs.starting.open_part.Tie as tie
 
 returns : tie.Need-returns
 returns c =
-    let s = c.before.before.before in
-    let cells = s.args.n * s.args.n in
-    rest_back cells s.args.t-1.now (omega (arith, s.requires.1)) (rw (rest cells s.args.t-1.now) at c.before.first_open.ensures)
+    let cells = c.args.n * c.args.n in
+    rest_back cells c.args.t.now (omega (arith, c.requires.1)) (rw (rest cells c.args.t.now) at c.first_open.ensures)
 
 pub open_part_spec : {M : Type 1} → statement M
 open_part_spec =
