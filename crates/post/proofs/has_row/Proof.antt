@@ -8,5 +8,5 @@ pub has_row_spec : {M : Type 1} → statement M
 has_row_spec =
     tie.close
     (tie.spec (λ c. search too_many)
-    (λ c. omega (arith, square_le c.if1.false))
-    (λ c. else _ _ _ _ c.if1.false))
+    (λ c. omega (arith, square_le c.if-n-gt64.false))
+    (λ c. else _ _ _ _ c.if-n-gt64.false))

@@ -6,9 +6,9 @@ use Rattle.post.proofs.JudgeAnswers.{lent_judged, lent_enough, strict_enough, op
 use Rattle.post.proofs.judging.judge.Statement.{statement}
 use Rattle.post.proofs.judging.judge.Tie as tie
 
-judge_sound_requires : tie.Need-judge-sound-requires
+judge_sound_requires : tie.Need-judge_sound-requires
 judge_sound_requires c κs =
-    let enough = lent_enough c.before.before.before.before.before.before.lent.ensures (search is_accepted) in
+    let enough = lent_enough c.before.before.before.before.before.before.lent-a.ensures (search is_accepted) in
     search (ready_of, strict_enough, open_enough)
 
 pub judge_spec : {M : Type 1} → statement M

@@ -7,7 +7,7 @@ use Rattle.post.proofs.judging.lent.Statement.{statement}
 use Rattle.post.proofs.judging.lent.Tie as tie
 
 -- past the first test the file is sound
-done : (c : tie.After-head) → file_answer c.before.before.before.before.before.args.file.now ≡ Done
+done : (c : tie.After-head-h) → file_answer c.before.before.before.before.before.args.file.now ≡ Done
 done c = search is_accepted
 
 pub lent_spec : {M : Type 1} → statement M
@@ -16,7 +16,7 @@ lent_spec =
     (tie.spec (λ c κs. search rules) (λ c κs. search rules)
     (λ c. search lent_refused)
     (λ c κs. search rules) (λ c. search rules)
-    (λ c. omega (arith, cells_small _ (done c.before) _ c.before.head.ensures))
+    (λ c. omega (arith, cells_small _ (done c.before) _ c.before.head-h.ensures))
     (λ c. search (lent_short_strict, done c.before.before))
     (λ c. search (lent_short_open, done c.before.before.before))
     (λ c. search (lent_done, done c.before.before.before)))

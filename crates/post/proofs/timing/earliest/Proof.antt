@@ -7,14 +7,14 @@ use Rattle.post.proofs.timing.earliest.Statement.{statement}
 use Rattle.post.proofs.timing.earliest.Tie as tie
 
 -- past the first test the file is sound and both tables have room
-enough : (c : tie.After-head)
+enough : (c : tie.After-head-h)
     → let a = c.before.before.before.before.before.args in Enough a.file.now (length a.strict.now) (length a.«open».now)
 enough c = search (lent_enough, is_accepted)
 
-returns_3 : tie.Need-returns-3
+returns_3 : tie.Need-returns-then-links-ne0
 returns_3 c =
     let h = c.before.before.before in
-    times_links _ _ h.head.ensures _ _ _ (enough h) c.before.if2.false c.if3.true
+    times_links _ _ h.head-h.ensures _ _ _ (enough h) c.before.if-times-n.false c.if-links-ne0.true
 
 timed_requires : tie.Need-timed-requires
 timed_requires c κs =

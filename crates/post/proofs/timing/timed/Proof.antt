@@ -5,9 +5,9 @@ use Rattle.post.proofs.EarliestAnswers.{refused_timed, written_of, written_sound
 use Rattle.post.proofs.timing.timed.Statement.{statement}
 use Rattle.post.proofs.timing.timed.Tie as tie
 
-times_all_requires : tie.Need-times-all-requires
+times_all_requires : tie.Need-times_all-requires
 times_all_requires c κs =
-    let written = written_of c.before.before.before.before.before.before.judge.ensures (search is_accepted) in
+    let written = written_of c.judge-judged.ensures (search is_accepted) in
     search (few, written_sound)
 
 pub timed_spec : {M : Type 1} → statement M

@@ -5,7 +5,7 @@ use Rattle.post.proofs.word_faces.post_both.Tie as tie
 
 returns : tie.Need-returns
 returns c =
-    let call = c.before.before.before.both-into in
+    let call = c.before.before.before.both_into in
     record { answer = call.result; meets = call.ensures; is = c.packed.ensures }
 
 pub post_both_spec : {M : Type 1} → statement M

@@ -5,7 +5,7 @@ use Rattle.post.proofs.word_faces.post_reach_add.Tie as tie
 
 returns : tie.Need-returns
 returns c =
-    let call = c.before.before.before.reach-add in
+    let call = c.before.before.before.reach_add in
     record { answer = call.result; meets = call.ensures; is = c.packed.ensures }
 
 pub post_reach_add_spec : {M : Type 1} → statement M
