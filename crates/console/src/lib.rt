@@ -1,0 +1,31 @@
+// What the programs share at their edge: standard input into an array of a fixed length, and the verdict of an answer in words.
+#![tactic(auto)]
+
+ghost use Rattle.std.specs.Prelude.{◌≤◌, length, IfOk};
+
+use answers::{accepted, code, place};
+use rules::Answer;
+use std::io::{self, Read};
+
+// Reads until the bytes are full or the input ends, and answers how many were read. A read that fails ends it.
+pub fn read_full<R: Read>(input: &mut R, bytes: &mut [u8]) -> io::Result<usize>
+    ensures { IfOk result (λ n. n ≤ length bytes.new) }
+{
+    let mut done = 0;
+    while done < bytes.len() {
+        let got = input.read(&mut bytes[done..])?;
+        if got == 0 {
+            break;
+        }
+        done += got;
+    }
+    Ok(done)
+}
+
+// Writes the verdict of an answer, on a line.
+pub fn write_verdict(rt: &impl Print, a: Answer) -> io::Result<()> {
+    if accepted(a) {
+        return println!(rt; "controllable");
+    }
+    println!(rt; "refused {} {}", code(a), place(a))
+}
