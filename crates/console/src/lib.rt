@@ -1,15 +1,18 @@
 // What the programs share at their edge: standard input into an array of a fixed length, and the verdict of an answer in words.
 #![tactic(auto)]
 
-ghost use Rattle.std.specs.Prelude.{◌≤◌, length, IfOk};
+ghost use Rattle.std.specs.Prelude.{◌≤◌, ◌<◌, length, take, IfOk};
+ghost use Rattle.std.specs.Io.KnownBytes.{Consumes, IsAtEnd};
 
 use answers::{accepted, code, place};
 use rules::Answer;
 use std::io::{self, Read};
 
-// Reads until the bytes are full or the input ends, and answers how many were read. A read that fails ends it.
+// Reads until the bytes are full or the input ends, and answers how many were read. They stand at the front, as the input gave them.
 pub fn read_full<R: Read>(input: &mut R, bytes: &mut [u8]) -> io::Result<usize>
-    ensures { IfOk result (λ n. n ≤ length bytes.new) }
+    ensures within { IfOk result (λ n. n ≤ length bytes.new) }
+    ensures read { IfOk result (λ n. Consumes (R.remaining input.old) (R.remaining input.new) (take n bytes.new)) }
+    ensures ended { IfOk result (λ n. n < length bytes.new → IsAtEnd (R.remaining input.new)) }
 {
     let mut done = 0;
     while done < bytes.len() {
