@@ -89,14 +89,12 @@ fn points(file: &[u8]) -> usize
 fn same(cells: &[i64], v: i64) -> usize
     ensures { result ≤ length cells.now }
 {
-    let mut i = 0;
-    while i < cells.len() {
-        if cells[i] != v {
+    for (i, cell) in cells.iter().enumerate() {
+        if *cell != v {
             return i;
         }
-        i += 1;
     }
-    i
+    cells.len()
 }
 
 // Prints of a scratch that held 7 in every cell how many cells from the first one on are 0 now, and how many behind those still hold 7.
@@ -142,18 +140,16 @@ fn added_all(
     strict: &mut [i32],
     open: &mut [i32],
 ) -> io::Result<()> {
-    let mut at = 0;
-    while 12 <= limits.len() - at {
+    for limit in limits.chunks_exact(12) {
         added(
             rt,
             file,
-            unsigned_at(limits, at),
-            unsigned_at(limits, at + 4),
-            signed_at(limits, at + 8),
+            unsigned_at(limit, 0),
+            unsigned_at(limit, 4),
+            signed_at(limit, 8),
             strict,
             open,
         )?;
-        at += 12;
     }
     Ok(())
 }

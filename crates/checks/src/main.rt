@@ -20,10 +20,8 @@ fn print(rt: &impl Print, a: Answer, end: &str) -> io::Result<()> {
 fn take(all: &[u8], at: usize, count: usize, t: &mut [i32])
     requires { (at + 4 * count ≤ length all.now) × (count ≤ length t.old) }
 {
-    let mut i = 0;
-    while i < count {
+    for i in 0..count {
         t[i] = signed_at(all, at + 4 * i);
-        i += 1;
     }
 }
 

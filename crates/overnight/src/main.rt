@@ -21,11 +21,7 @@ fn print(rt: &impl Print, word: &str, a: Answer) -> io::Result<()> {
 fn store(bytes: &[u8], flash: &mut [u8])
     requires { length bytes.now ≤ length flash.old }
 {
-    let mut i = 0;
-    while i < bytes.len() {
-        flash[i] = bytes[i];
-        i += 1;
-    }
+    flash[..bytes.len()].copy_from_slice(bytes);
 }
 
 // How many cells a table of a file's points has; 0 where the file names more points than there may be.
@@ -41,14 +37,12 @@ fn room(file: &[u8]) -> usize {
 fn same(cells: &[i32], v: i32) -> usize
     ensures { result ≤ length cells.now }
 {
-    let mut i = 0;
-    while i < cells.len() {
-        if cells[i] != v {
+    for (i, cell) in cells.iter().enumerate() {
+        if *cell != v {
             return i;
         }
-        i += 1;
     }
-    i
+    cells.len()
 }
 
 // Whether every cell holds 7 still.

@@ -49,15 +49,13 @@ fn write_lines(
 ) -> io::Result<()>
     requires { (count ≤ length kinds.now) × (count ≤ length froms.now) × (count ≤ length tos.now) × (count ≤ length weights.now) × (count ≤ length firsts.now) × (count ≤ length seconds.now) }
 {
-    let mut i = 0;
-    while i < count {
+    for i in 0..count {
         write_number(rt, kinds[i])?;
         write_number(rt, froms[i])?;
         write_number(rt, tos[i])?;
         write_weight(rt, weights[i])?;
         write_number(rt, firsts[i])?;
         write_last(rt, seconds[i])?;
-        i += 1;
     }
     Ok(())
 }
