@@ -6,6 +6,8 @@
 #![tactic(auto)]
 
 ghost use Rattle.std.specs.Prelude.{◌≡◌, ◌≤◌, ◌<◌, nat_abs, length, IfOk};
+ghost use Rattle.cases.specs.Case.{AllHold};
+ghost use Rattle.cases.specs.Paper.{paper};
 
 use answers::{accepted, code, place};
 use console::read_full;
@@ -13,6 +15,11 @@ use fields::{signed_at, unsigned_at};
 use post::Side;
 use rules::Answer;
 use std::io;
+
+// What the documents say of the plans that they work through holds of the definitions that the calls are held to.
+fn worked_plans_hold()
+    ensures { AllHold paper }
+{}
 
 // Prints a word and the code and place of an answer, on a line.
 fn print(rt: &impl Print, word: &str, a: Answer) -> io::Result<()> {
@@ -222,6 +229,7 @@ fn report(rt: &impl Print, all: &[u8]) -> io::Result<()> {
 }
 
 fn main(rt: HostRuntime) -> io::Result<()> {
+    worked_plans_hold();
     let mut space = [0u8; 16384];
     let mut input = rt.reader();
     let got = read_full(&mut input, &mut space)?;
