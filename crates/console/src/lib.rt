@@ -1,12 +1,13 @@
 // What the programs share at their edge: standard input into an array of a fixed length, and the verdict of an answer in words.
 #![tactic(auto)]
 
-ghost use Rattle.std.specs.Prelude.{◌≤◌, ◌<◌, length, take, IfOk};
-ghost use Rattle.std.specs.Io.KnownBytes.{Consumes, IsAtEnd};
+ghost use Rattle.std.specs.Prelude.{◌≤◌, ◌<◌, length, take, IfOk, OnOk};
+ghost use Rattle.std.specs.Io.KnownBytes.{Appends, Consumes, IsAtEnd};
+ghost use Rattle.console.specs.Verdict.{verdict_of};
 
 use answers::{accepted, code, place};
 use rules::Answer;
-use std::io::{self, Read};
+use std::io::{self, Read, Write};
 
 // Reads until the bytes are full or the input ends, and answers how many were read. They stand at the front, as the input gave them.
 pub fn read_full<R: Read>(input: &mut R, bytes: &mut [u8]) -> io::Result<usize>
@@ -26,9 +27,11 @@ pub fn read_full<R: Read>(input: &mut R, bytes: &mut [u8]) -> io::Result<usize>
 }
 
 // Writes the verdict of an answer, on a line.
-pub fn write_verdict(rt: &impl Print, a: Answer) -> io::Result<()> {
+pub fn write_verdict<W: Write>(out: &mut W, a: Answer) -> io::Result<()>
+    ensures { OnOk result (Appends (W.contents out.old) (W.contents out.new) (verdict_of a)) }
+{
     if accepted(a) {
-        return println!(rt; "controllable");
+        return writeln!(out, "controllable");
     }
-    println!(rt; "refused {} {}", code(a), place(a))
+    writeln!(out, "refused {} {}", code(a), place(a))
 }

@@ -31,5 +31,6 @@ fn main(rt: HostRuntime) -> io::Result<()> {
     let mut open = [0i32; 4096];
     let mut input = rt.reader();
     let got = read_full(&mut input, &mut file)?;
-    write_verdict(&rt, answer(&file[..got], &mut strict, &mut open))
+    let mut output = io::writer(&rt);
+    write_verdict(&mut output, answer(&file[..got], &mut strict, &mut open))
 }

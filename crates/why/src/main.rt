@@ -96,7 +96,7 @@ fn main(rt: HostRuntime) -> io::Result<()> {
         &mut seconds,
         &mut work,
     );
-    write_verdict(&rt, a)?;
+    write_verdict(&mut io::writer(&rt), a)?;
     write_lines(
         &rt,
         &kinds,

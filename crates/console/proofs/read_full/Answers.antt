@@ -29,8 +29,7 @@ loop-done-preserved g c =
     let new = put_mid from room old c.read.new.buf in
     let within = c.loop-done.invariant.1 in
     let part = slice_range-put_mid from room got old c.read.new.buf within c.in_ok-got.ensures.bound.0 in
-    let joined = take_split from (from + got) old new (omega arith) (take-put_mid_below _ _ _ _ _ (le_refl _) within) in
-    (
+    let joined = take_split from (from + got) old new (omega arith) (take-put_mid_below _ _ _ _ _ (le_refl _) within) in (
       search rules,
       search rules,
       search rules,
