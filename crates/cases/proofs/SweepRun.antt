@@ -29,16 +29,16 @@ abbrev pub link_in : List Link → ℕ → Link
 link_in ks i = get_or ks i (record { act = 0; con = 0; short = 0; long = 0 })
 
 -- a member's index
-place : {A : Type 0} (l : List A) {x : A} → Memᴰ x l → ℕ
+place : {A : Type 0} {x : A} (l : List A) → Memᴰ x l → ℕ
 place l (Memᴰ.head e) = zero
 place l (Memᴰ.tail {xs} m) = suc (place xs m)
 
-place_below : {A : Type 0} (l : List A) {x : A} (m : Memᴰ x l) → place l m < length l
+place_below : {A : Type 0} {x : A} (l : List A) (m : Memᴰ x l) → place l m < length l
 unfolding place
 place_below l (Memᴰ.head e) = omega arith
 place_below l (Memᴰ.tail {xs} m) = omega (arith, place_below xs m)
 
-place_is : {A : Type 0} (d : A) (l : List A) {x : A} (m : Memᴰ x l) → get_or l (place l m) d ≡ x
+place_is : {A : Type 0} {x : A} (d : A) (l : List A) (m : Memᴰ x l) → get_or l (place l m) d ≡ x
 unfolding place
 place_is d l (Memᴰ.head e) = sym e
 place_is d l (Memᴰ.tail {xs} m) = place_is d xs m

@@ -4,30 +4,24 @@
 // those three; the repository's tools/changed_files.py makes the input and what is to be printed.
 #![tactic(auto)]
 
-ghost use Rattle.std.specs.Prelude.{◌≤◌, ◌<◌, length};
+ghost use Rattle.std.specs.Prelude.{◌≤◌, ◌<◌, length, IfOk};
 
 use answers::{code, place};
+use console::read_full;
 use fields::unsigned_at;
-use libc::{STDIN_FILENO, STDOUT_FILENO};
 use rules::Answer;
+use std::io;
 
 // Prints a word, and code and place of an answer behind it.
-fn print(word: &[u8], a: Answer) {
-    io::write_all(STDOUT_FILENO, word);
-    io::print_decimal(STDOUT_FILENO, code(a) as u64);
-    io::write_all(STDOUT_FILENO, b" ");
-    io::print_decimal(STDOUT_FILENO, place(a) as u64);
+fn print(rt: &impl Print, word: &str, a: Answer) -> io::Result<()> {
+    print!(rt; "{word}{} {}", code(a), place(a))
 }
 
 // Puts bytes where the flash begins, over what is there. What lies behind them stays.
 fn store(bytes: &[u8], flash: &mut [u8])
     requires { length bytes.now ≤ length flash.old }
 {
-    let mut i = 0;
-    while i < bytes.len() {
-        flash[i] = bytes[i];
-        i += 1;
-    }
+    flash[..bytes.len()].copy_from_slice(bytes);
 }
 
 // How many cells a table of a file's points has; 0 where the file names more points than there may be.
@@ -43,14 +37,12 @@ fn room(file: &[u8]) -> usize {
 fn same(cells: &[i32], v: i32) -> usize
     ensures { result ≤ length cells.now }
 {
-    let mut i = 0;
-    while i < cells.len() {
-        if cells[i] != v {
+    for (i, cell) in cells.iter().enumerate() {
+        if *cell != v {
             return i;
         }
-        i += 1;
     }
-    i
+    cells.len()
 }
 
 // Whether every cell holds 7 still.
@@ -68,23 +60,21 @@ fn marked(cells: &[i32], count: usize) -> bool {
 }
 
 // Prints what became of the tables of a plan with so many cells in each. The cells themselves are looked at, and no code.
-fn print_tables(strict: &[i32], open: &[i32], count: usize) {
-    io::write_all(STDOUT_FILENO, b", tables ");
+fn print_tables(rt: &impl Print, strict: &[i32], open: &[i32], count: usize) -> io::Result<()> {
+    print!(rt; ", tables ")?;
     if stays(strict) & stays(open) {
-        io::write_all(STDOUT_FILENO, b"stay\n");
-        return;
+        return println!(rt; "stay");
     }
     if marked(strict, count) & marked(open, count) {
-        io::write_all(STDOUT_FILENO, b"marked\n");
-        return;
+        return println!(rt; "marked");
     }
-    io::write_all(STDOUT_FILENO, b"filled\n");
+    println!(rt; "filled")
 }
 
 // Prints what the two calls answer: the first of the file as it is stored, the second, whatever the first one said, of what the same flash holds
 // at night. The flash has room for more than the largest file, 12,824 bytes; where less is held than was stored, the old bytes still lie
 // behind it, and Judge is not lent them.
-fn line(stored: &[u8], held: &[u8])
+fn line(rt: &impl Print, stored: &[u8], held: &[u8]) -> io::Result<()>
     requires { (length stored.now ≤ 16384) × (length held.now ≤ 16384) }
 {
     let mut flash = [0u8; 16384];
@@ -92,54 +82,56 @@ fn line(stored: &[u8], held: &[u8])
     let mut open = [7i32; 4096];
     store(stored, &mut flash);
     let before = stored.len();
-    print(b": sound ", post::sound(&flash[..before]));
+    print(rt, ": sound ", post::sound(&flash[..before]))?;
     store(held, &mut flash);
     let after = held.len();
     let file = &flash[..after];
-    print(b", judge ", post::judge(file, &mut strict, &mut open));
-    print_tables(&strict, &open, room(file));
+    print(rt, ", judge ", post::judge(file, &mut strict, &mut open))?;
+    print_tables(rt, &strict, &open, room(file))
 }
 
 // Prints the line of the entry at a position, and answers where the next one begins. What does not fit ends the input.
-fn next(all: &[u8], at: usize) -> usize
+fn next(rt: &impl Print, all: &[u8], at: usize) -> io::Result<usize>
     requires { at < length all.now }
-    ensures { (at < result) × (result ≤ length all.now) }
+    ensures { IfOk result (λ after. (at < after) × (after ≤ length all.now)) }
 {
     let size = all.len();
     if size - at < 12 {
-        return size;
+        return Ok(size);
     }
     let start = at + 12;
     let name = unsigned_at(all, at) as usize;
     let before = unsigned_at(all, at + 4) as usize;
     let after = unsigned_at(all, at + 8) as usize;
     if 16384 < before {
-        return size;
+        return Ok(size);
     }
     if 16384 < after {
-        return size;
+        return Ok(size);
     }
     if size - start < name + before + after {
-        return size;
+        return Ok(size);
     }
     let middle = start + name;
     let last = middle + before;
     let end = last + after;
-    io::write_all(STDOUT_FILENO, &all[start..middle]);
-    line(&all[middle..last], &all[last..end]);
-    end
+    rt.write_all(&all[start..middle])?;
+    line(rt, &all[middle..last], &all[last..end])?;
+    Ok(end)
 }
 
 // Prints a line for each entry.
-fn report(all: &[u8]) {
+fn report(rt: &impl Print, all: &[u8]) -> io::Result<()> {
     let mut at = 0;
     while at < all.len() {
-        at = next(all, at);
+        at = next(rt, all, at)?;
     }
+    Ok(())
 }
 
-fn main() {
+fn main(rt: HostRuntime) -> io::Result<()> {
     let mut space = [0u8; 262144];
-    let got = io::read_full(STDIN_FILENO, &mut space);
-    report(&space[..got]);
+    let mut input = rt.reader();
+    let got = read_full(&mut input, &mut space)?;
+    report(&rt, &space[..got])
 }

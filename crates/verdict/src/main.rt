@@ -6,10 +6,11 @@ ghost use Rattle.rules.specs.Calls.{Judged};
 ghost use Rattle.plan.specs.Layout.{plan_of};
 ghost use Rattle.plan.specs.File.{file_answer};
 
-use answers::{accepted, code, place};
-use libc::{STDIN_FILENO, STDOUT_FILENO};
+use answers::accepted;
+use console::{read_full, write_verdict};
 use post::{judge, sound};
 use rules::Answer;
+use std::io;
 
 // The pair: whether the file is sound, and only then its tables. It answers what Judge alone would.
 fn answer(file: &[u8], strict: &mut [i32], open: &mut [i32]) -> Answer
@@ -22,25 +23,14 @@ fn answer(file: &[u8], strict: &mut [i32], open: &mut [i32]) -> Answer
     judge(file, strict, open)
 }
 
-// Writes the verdict of an answer.
-fn write_verdict(a: Answer) {
-    if accepted(a) {
-        io::write_all(STDOUT_FILENO, b"controllable\n");
-        return;
-    }
-    io::write_all(STDOUT_FILENO, b"refused ");
-    io::print_decimal(STDOUT_FILENO, code(a) as u64);
-    io::write_all(STDOUT_FILENO, b" ");
-    io::print_decimal(STDOUT_FILENO, place(a) as u64);
-    io::write_all(STDOUT_FILENO, b"\n");
-}
-
 // The array is one byte longer than the largest file, 12,824 bytes. Of a longer file the first 12,825 bytes are judged: no plan file has that length,
 // so they get the very code that the whole file must get.
-fn main() {
+fn main(rt: HostRuntime) -> io::Result<()> {
     let mut file = [0u8; 12825];
     let mut strict = [0i32; 4096];
     let mut open = [0i32; 4096];
-    let got = io::read_full(STDIN_FILENO, &mut file);
-    write_verdict(answer(&file[..got], &mut strict, &mut open));
+    let mut input = rt.reader();
+    let got = read_full(&mut input, &mut file)?;
+    let mut output = io::writer(&rt);
+    write_verdict(&mut output, answer(&file[..got], &mut strict, &mut open))
 }

@@ -4,23 +4,11 @@
 
 ghost use Rattle.std.specs.Prelude.{◌≡◌, ◌≤◌, nat_abs, length};
 
-use answers::{accepted, code, place};
-use libc::{STDIN_FILENO, STDOUT_FILENO};
+use answers::{code, place};
+use console::{read_full, write_verdict};
 use reasons::reasons;
 use rules::Answer;
-
-// Writes the verdict of an answer.
-fn write_verdict(a: Answer) {
-    if accepted(a) {
-        io::write_all(STDOUT_FILENO, b"controllable\n");
-        return;
-    }
-    io::write_all(STDOUT_FILENO, b"refused ");
-    io::print_decimal(STDOUT_FILENO, code(a) as u64);
-    io::write_all(STDOUT_FILENO, b" ");
-    io::print_decimal(STDOUT_FILENO, place(a) as u64);
-    io::write_all(STDOUT_FILENO, b"\n");
-}
+use std::io;
 
 // How far a number lies from zero.
 fn size(v: i64) -> u64
@@ -33,28 +21,24 @@ fn size(v: i64) -> u64
 }
 
 // Writes a number, and a blank behind it.
-fn write_number(v: u32) {
-    io::print_decimal(STDOUT_FILENO, v as u64);
-    io::write_all(STDOUT_FILENO, b" ");
+fn write_number(rt: &impl Print, v: u32) -> io::Result<()> {
+    print!(rt; "{v} ")
 }
 
 // Writes the last number of a line.
-fn write_last(v: u32) {
-    io::print_decimal(STDOUT_FILENO, v as u64);
-    io::write_all(STDOUT_FILENO, b"\n");
+fn write_last(rt: &impl Print, v: u32) -> io::Result<()> {
+    println!(rt; "{v}")
 }
 
 // Writes a weight, and a blank behind it.
-fn write_weight(v: i64) {
-    if v < 0 {
-        io::write_all(STDOUT_FILENO, b"-");
-    }
-    io::print_decimal(STDOUT_FILENO, size(v));
-    io::write_all(STDOUT_FILENO, b" ");
+fn write_weight(rt: &impl Print, v: i64) -> io::Result<()> {
+    let sign = if v < 0 { "-" } else { "" };
+    print!(rt; "{sign}{} ", size(v))
 }
 
 // Writes so many lines of a list.
 fn write_lines(
+    rt: &impl Print,
     kinds: &[u32],
     froms: &[u32],
     tos: &[u32],
@@ -62,19 +46,18 @@ fn write_lines(
     firsts: &[u32],
     seconds: &[u32],
     count: usize,
-)
+) -> io::Result<()>
     requires { (count ≤ length kinds.now) × (count ≤ length froms.now) × (count ≤ length tos.now) × (count ≤ length weights.now) × (count ≤ length firsts.now) × (count ≤ length seconds.now) }
 {
-    let mut i = 0;
-    while i < count {
-        write_number(kinds[i]);
-        write_number(froms[i]);
-        write_number(tos[i]);
-        write_weight(weights[i]);
-        write_number(firsts[i]);
-        write_last(seconds[i]);
-        i += 1;
+    for i in 0..count {
+        write_number(rt, kinds[i])?;
+        write_number(rt, froms[i])?;
+        write_number(rt, tos[i])?;
+        write_weight(rt, weights[i])?;
+        write_number(rt, firsts[i])?;
+        write_last(rt, seconds[i])?;
     }
+    Ok(())
 }
 
 // How many lines an answer says there are to write: none unless it is 11, and no more than the arrays hold.
@@ -92,7 +75,7 @@ fn listed(a: Answer) -> usize
 }
 
 // The byte array is one longer than the largest file, as in the small program.
-fn main() {
+fn main(rt: HostRuntime) -> io::Result<()> {
     let mut file = [0u8; 12825];
     let mut kinds = [0u32; 65536];
     let mut froms = [0u32; 65536];
@@ -101,7 +84,8 @@ fn main() {
     let mut firsts = [0u32; 65536];
     let mut seconds = [0u32; 65536];
     let mut work = [0i64; 16384];
-    let got = io::read_full(STDIN_FILENO, &mut file);
+    let mut input = rt.reader();
+    let got = read_full(&mut input, &mut file)?;
     let a = reasons(
         &file[..got],
         &mut kinds,
@@ -112,6 +96,15 @@ fn main() {
         &mut seconds,
         &mut work,
     );
-    write_verdict(a);
-    write_lines(&kinds, &froms, &tos, &weights, &firsts, &seconds, listed(a));
+    write_verdict(&mut io::writer(&rt), a)?;
+    write_lines(
+        &rt,
+        &kinds,
+        &froms,
+        &tos,
+        &weights,
+        &firsts,
+        &seconds,
+        listed(a),
+    )
 }

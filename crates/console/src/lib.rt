@@ -1,0 +1,37 @@
+// What the programs share at their edge: standard input into an array of a fixed length, and the verdict of an answer in words.
+#![tactic(auto)]
+
+ghost use Rattle.std.specs.Prelude.{◌≤◌, ◌<◌, length, take, IfOk, OnOk};
+ghost use Rattle.std.specs.Io.KnownBytes.{Appends, Consumes, IsAtEnd};
+ghost use Rattle.console.specs.Verdict.{verdict_of};
+
+use answers::{accepted, code, place};
+use rules::Answer;
+use std::io::{self, Read, Write};
+
+// Reads until the bytes are full or the input ends, and answers how many were read. They stand at the front, as the input gave them.
+pub fn read_full<R: Read>(input: &mut R, bytes: &mut [u8]) -> io::Result<usize>
+    ensures within { IfOk result (λ n. n ≤ length bytes.new) }
+    ensures read { IfOk result (λ n. Consumes (R.remaining input.old) (R.remaining input.new) (take n bytes.new)) }
+    ensures ended { IfOk result (λ n. n < length bytes.new → IsAtEnd (R.remaining input.new)) }
+{
+    let mut done = 0;
+    while done < bytes.len() {
+        let got = input.read(&mut bytes[done..])?;
+        if got == 0 {
+            break;
+        }
+        done += got;
+    }
+    Ok(done)
+}
+
+// Writes the verdict of an answer, on a line.
+pub fn write_verdict<W: Write>(out: &mut W, a: Answer) -> io::Result<()>
+    ensures { OnOk result (Appends (W.contents out.old) (W.contents out.new) (verdict_of a)) }
+{
+    if accepted(a) {
+        return writeln!(out, "controllable");
+    }
+    writeln!(out, "refused {} {}", code(a), place(a))
+}
