@@ -22,8 +22,9 @@ loop-z-preserved c =
     decides_sum a.n a.y a.x c.loop-z.z a.t.now _ _ c.add.result.v c.get-a.ensures c.get-c.ensures c.add.ensures
     c.at_most.ensures in
     elim c.if-not-at_most.branch [
-      then-not-at_most w ↦ rw w.held-is (tried_failed c.loop-z.invariant (omega arith) test w.if-not-at_most.true)
-    | else-not-at_most w ↦ rw w.held-is (tried_more c.loop-z.invariant (omega arith) test w.if-not-at_most.false) ]
+      | then-not-at_most w ↦ rw w.held-is (tried_failed c.loop-z.invariant (omega arith) test w.if-not-at_most.true)
+      | else-not-at_most w ↦ rw w.held-is (tried_more c.loop-z.invariant (omega arith) test w.if-not-at_most.false)
+    ]
 
 pub returns : goal.returns
 returns c = all_tried c.loop-z.invariant (omega arith)
