@@ -3,7 +3,7 @@
 #![tactic(auto)]
 
 // What a call answers: a case for each code of the paper's table "Numbers returned", with the place where the paper names one.
-// The paper's numbers are codeOf and placeOf of specs/Answers.antt.
+// The paper's numbers are code_of and place_of of specs/Answers.antt.
 #[derive(Clone, Copy)]
 pub enum Answer {
     // 0: done, or accepted

@@ -1,11 +1,10 @@
 -- From the machine's bits to numbers, for signed values of any width. Code compares, adds and casts the bits of a signed local, so a need
 -- or a flag speaks of `to_z w (of_z w a)` where the source says a. A number that fits its type is what its bits are read as (`back`), so:
 --   a need with such terms               rw (back h, back k) (omega (signed, plus a b)), with h and k the facts that a and b fit
---   what a function returns              sum_is h k (..), difference-is, negation-is, cast_is
+--   what a function returns              sum_is h k (..), difference_is, negation_is, cast_is
 --   a flag of `<`, `<=`, `>` or `>=`     omega (signed, kept h, kept k), which reads the flag and proves orders and `SFits`
---   a flag of `==` or `!=`               same h k c.if1.taken, same-pos beside a literal; differ w32 c.if1.left
--- That a parameter fits is `c.fits.x`. Of a field, an element and a callee's result the record has the bound alone, at
--- `c.struct_told.given.0.1`, `c.VAR.given` and `c.f.ok`: `fit w a` makes it a fact like the others. Assumes nothing.
+--   a flag of `==` or `!=`               same h k (..), same_pos beside a literal; differ w32 (..)
+-- Where a record has the bound of a number alone, `fit w a` makes it a fact that the number fits. Assumes nothing.
 use mathlib.Core.Path.{◌≡◌, refl, sym, ap, ◌∙◌}
 use mathlib.Core.Bool.{Bool, true, false, not}
 use Prim.Native.Nat.{ℕ, zero, suc, ◌+◌, ◌-◌, ◌^◌, ◌≤◌, ◌<◌, max}
