@@ -1,19 +1,20 @@
 // What the programs share at their edge: standard input into an array of a fixed length, and the verdict of an answer in words.
 #![tactic(auto)]
 
-ghost use Rattle.std.specs.Prelude.{◌≤◌, ◌<◌, length, take, IfOk, OnOk};
-ghost use Rattle.std.specs.Io.KnownBytes.{Appends, Consumes, IsAtEnd};
+ghost use Rattle.std.specs.Prelude.{◌≡◌, ◌≤◌, length, take, IfOk, IfSome, OnOk};
+ghost use Rattle.std.specs.Io.KnownBytes.{Appends, Consumes};
 ghost use Rattle.console.specs.Verdict.{verdict_of};
 
 use answers::{accepted, code, place};
 use rules::Answer;
 use std::io::{self, Read, Write};
 
-// Reads until the bytes are full or the input ends, and answers how many were read. They stand at the front, as the input gave them.
+// Reads until the bytes are full or the input ends, and answers how many were read. They stand at the front, as the input gave them, and none is
+// left out for which there was room.
 pub fn read_full<R: Read>(input: &mut R, bytes: &mut [u8]) -> io::Result<usize>
     ensures within { IfOk result (λ n. n ≤ length bytes.new) }
     ensures read { IfOk result (λ n. Consumes (R.remaining input.old) (R.remaining input.new) (take n bytes.new)) }
-    ensures ended { IfOk result (λ n. n < length bytes.new → IsAtEnd (R.remaining input.new)) }
+    ensures front { IfOk result (λ n. IfSome (R.remaining input.old) (λ given. take n bytes.new ≡ take (length bytes.new) given)) }
 {
     let mut done = 0;
     while done < bytes.len() {
