@@ -1,0 +1,2 @@
+-- What the small program says of a file.
+pub mod Program
