@@ -1,7 +1,8 @@
--- The verdict of an answer in words, as the small program prints it: the plan is controllable, or refused with its code and place. Assumes nothing.
+-- The small program "writes `controllable` or `refused CODE PLACE`, then a line feed". Assumes nothing.
 use Rattle.std.specs.Prelude.{List, ◌++◌, ℕ, if◌then◌else◌, ◌==◌, codes, decimal}
 use Rattle.rules.specs.declared.Answer.{Answer}
 use Rattle.rules.specs.Answers.{code_of, place_of}
 
+-- the verdict of an answer: 0 says that the plan is controllable, any other code that it is refused
 abbrev pub verdict_of : Answer → List ℕ
 verdict_of a = if code_of a == 0 then codes "controllable\n" else codes "refused " ++ (decimal (code_of a) ++ (codes " " ++ (decimal (place_of a) ++ codes "\n")))
