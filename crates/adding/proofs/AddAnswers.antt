@@ -9,14 +9,12 @@ use lib.Dec.{eqb}
 use lib.ListN.{length}
 use lib.IntN.{ℤ, pos}
 use Rattle.rules.specs.Plan.{Limit, version1, LimitInRange}
-use Rattle.rules.specs.Answers.{code_of}
+use Rattle.rules.specs.Answers.{code_of, Answer, Done, ShortRoom, NotControllable, NotClosed}
 use Rattle.rules.specs.Cells.{table_of}
 use Rattle.rules.specs.Tables.{Tables, Closed}
 use Rattle.rules.specs.Additions.{with_cells}
 use Rattle.rules.specs.Calls as calls
 use Rattle.rules.specs.Calls.{Added, Kept, Filled, RoomForTables, scratch_of}
-use Rattle.rules.specs.declared.Answer.{Answer}
-use Rattle.rules.specs.declared.Answer.TheVariants.{Done, ShortRoom, NotControllable, NotClosed}
 use Rattle.plan.specs.declared.Header.{Header}
 use Rattle.plan.specs.Layout.{head_of, link_at, plan_of}
 use Rattle.plan.specs.File.{file_answer, add_answer}

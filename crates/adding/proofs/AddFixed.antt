@@ -4,7 +4,7 @@ use Prim.Native.Nat.{ℕ}
 use lib.IntN.{ℤ}
 use Rattle.rules.specs.Plan.{Limit, version1}
 use Rattle.rules.specs.Calls.{Added}
-use Rattle.rules.specs.declared.Answer.{Answer}
+use Rattle.rules.specs.Answers.{Answer}
 use Rattle.rules.proofs.OneAnswer.{SameAdded, added_once}
 use Rattle.plan.specs.Layout.{plan_of}
 use Rattle.plan.specs.File.{add_answer}

@@ -1,7 +1,7 @@
 -- What Add's inner functions are lent: a sound file and a limit in range, and room for both tables and the scratch. Assumes nothing.
 use Rattle.std.specs.Prelude.{◌≡◌, List, ℕ, ◌+◌, ◌*◌, ◌≤◌, length, ℤ}
 use Rattle.rules.specs.Plan.{Limit, version1, LimitInRange}
-use Rattle.rules.specs.declared.Answer.TheVariants.{Done}
+use Rattle.rules.specs.Answers.{Done}
 use Rattle.plan.specs.File.{add_answer}
 use Rattle.lowering.specs.Table.{Ready}
 

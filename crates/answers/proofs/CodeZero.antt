@@ -3,47 +3,48 @@
 use mathlib.Core.Path.{◌≡◌, refl, sym, ap, ◌∙◌}
 use mathlib.Core.Bool.{Bool, true, false, false≢true, true≢false}
 use lib.Dec.{eqb}
-use Rattle.rules.specs.Answers.{code_of}
-use Rattle.rules.specs.declared.Answer.{Answer}
-use Rattle.rules.specs.declared.Answer.TheVariants.{Done, FewBytes, BadVersion, BadPoints, BadCounts, BadLayout, BadLimit, BadLink, RepeatedLink, ShortRoom, HasLinks, NotControllable, ReasonsListed, NotClosed}
+use Rattle.std.specs.Prelude.{Result, Ok, Err}
+use Rattle.rules.specs.Answers.{Answer, Done, code_of}
+use Rattle.rules.specs.declared.Refusal.{Refusal}
+use Rattle.rules.specs.declared.Refusal.TheVariants.{FewBytes, BadVersion, BadPoints, BadCounts, BadLayout, BadLimit, BadLink, RepeatedLink, ShortRoom, HasLinks, NotControllable, ReasonsListed, NotClosed}
 use Rattle.answers.specs.Order.{◌then◌, unless}
 
+-- no refusal has code 0
+pub refusal_code : (r : Refusal) → eqb (code_of (Err r)) 0 ≡ false
+refusal_code FewBytes = refl
+refusal_code BadVersion = refl
+refusal_code BadPoints = refl
+refusal_code BadCounts = refl
+refusal_code BadLayout = refl
+refusal_code (BadLimit i) = refl
+refusal_code (BadLink i) = refl
+refusal_code (RepeatedLink i) = refl
+refusal_code ShortRoom = refl
+refusal_code HasLinks = refl
+refusal_code NotControllable = refl
+refusal_code (ReasonsListed lines) = refl
+refusal_code NotClosed = refl
+
+-- a refusal is not Done
+pub not_done : {r : Refusal} → Err r ≡ Done → ⊥
+not_done {r} e = true≢false (sym (ap (λ (a : Answer). eqb (code_of a) 0) e) ∙ refusal_code r)
+
 pub code_zero : (a : Answer) → eqb (code_of a) 0 ≡ true → a ≡ Done
-code_zero Done e = refl
-code_zero FewBytes e = absurd (false≢true e)
-code_zero BadVersion e = absurd (false≢true e)
-code_zero BadPoints e = absurd (false≢true e)
-code_zero BadCounts e = absurd (false≢true e)
-code_zero BadLayout e = absurd (false≢true e)
-code_zero (BadLimit i) e = absurd (false≢true e)
-code_zero (BadLink i) e = absurd (false≢true e)
-code_zero (RepeatedLink i) e = absurd (false≢true e)
-code_zero ShortRoom e = absurd (false≢true e)
-code_zero HasLinks e = absurd (false≢true e)
-code_zero NotControllable e = absurd (false≢true e)
-code_zero (ReasonsListed lines) e = absurd (false≢true e)
-code_zero NotClosed e = absurd (false≢true e)
+code_zero (Ok tt) e = refl
+code_zero (Err r) e = absurd (false≢true (sym (refusal_code r) ∙ e))
 
 -- two answers one after the other are Done where both are
 pub then_done : (a b : Answer) → (a then b) ≡ Done → (a ≡ Done) × (b ≡ Done)
-then_done a b e = go (eqb (code_of a) 0) refl
-  where
-    go : (t : Bool) → eqb (code_of a) 0 ≡ t → (a ≡ Done) × (b ≡ Done)
-    go true q = (code_zero a q, rw q at e)
-    go false q =
-        let d : a ≡ Done = rw q at e in
-        absurd (true≢false (sym (ap (λ (x : Answer). eqb (code_of x) 0) d) ∙ q))
+then_done (Ok tt) b e = (refl, e)
+then_done (Err r) b e = absurd (not_done e)
 
 pub done_then : (a b : Answer) → a ≡ Done → b ≡ Done → (a then b) ≡ Done
 done_then a b p q = rw p q
 
 -- three answers one after the other, in whichever brackets
 pub then_assoc : (a b c : Answer) → ((a then b) then c) ≡ (a then b then c)
-then_assoc a b c = go (eqb (code_of a) 0) refl
-  where
-    go : (t : Bool) → eqb (code_of a) 0 ≡ t → ((a then b) then c) ≡ (a then b then c)
-    go true q = simp q
-    go false q = simp q
+then_assoc (Ok done) b c = refl
+then_assoc (Err r) b c = refl
 
 -- a refusal that a test guards does not come where the test holds, and only there
 pub unless_done : (t : Bool) (a : Answer) → eqb (code_of a) 0 ≡ false → unless t a ≡ Done → t ≡ true

@@ -4,27 +4,27 @@
 ghost use Rattle.std.specs.Prelude.{◌≡◌, eqb};
 ghost use Rattle.rules.specs.Answers.{code_of, place_of};
 
-use rules::Answer;
+use rules::{Answer, Refusal};
 
 // The code of an answer.
 pub fn code(a: Answer) -> u32
     ensures { result ≡ code_of a }
 {
     match a {
-        Answer::Done => 0,
-        Answer::FewBytes => 1,
-        Answer::BadVersion => 2,
-        Answer::BadPoints => 3,
-        Answer::BadCounts => 4,
-        Answer::BadLayout => 5,
-        Answer::BadLimit(_) => 6,
-        Answer::BadLink(_) => 7,
-        Answer::RepeatedLink(_) => 8,
-        Answer::ShortRoom => 9,
-        Answer::HasLinks => 10,
-        Answer::NotControllable => 11,
-        Answer::ReasonsListed(_) => 11,
-        Answer::NotClosed => 12,
+        Ok(()) => 0,
+        Err(Refusal::FewBytes) => 1,
+        Err(Refusal::BadVersion) => 2,
+        Err(Refusal::BadPoints) => 3,
+        Err(Refusal::BadCounts) => 4,
+        Err(Refusal::BadLayout) => 5,
+        Err(Refusal::BadLimit(_)) => 6,
+        Err(Refusal::BadLink(_)) => 7,
+        Err(Refusal::RepeatedLink(_)) => 8,
+        Err(Refusal::ShortRoom) => 9,
+        Err(Refusal::HasLinks) => 10,
+        Err(Refusal::NotControllable) => 11,
+        Err(Refusal::ReasonsListed(_)) => 11,
+        Err(Refusal::NotClosed) => 12,
     }
 }
 
@@ -33,20 +33,20 @@ pub fn place(a: Answer) -> u32
     ensures { result ≡ place_of a }
 {
     match a {
-        Answer::Done => 0,
-        Answer::FewBytes => 0,
-        Answer::BadVersion => 0,
-        Answer::BadPoints => 0,
-        Answer::BadCounts => 0,
-        Answer::BadLayout => 0,
-        Answer::BadLimit(at) => at,
-        Answer::BadLink(at) => at,
-        Answer::RepeatedLink(at) => at,
-        Answer::ShortRoom => 0,
-        Answer::HasLinks => 0,
-        Answer::NotControllable => 0,
-        Answer::ReasonsListed(lines) => lines,
-        Answer::NotClosed => 0,
+        Ok(()) => 0,
+        Err(Refusal::FewBytes) => 0,
+        Err(Refusal::BadVersion) => 0,
+        Err(Refusal::BadPoints) => 0,
+        Err(Refusal::BadCounts) => 0,
+        Err(Refusal::BadLayout) => 0,
+        Err(Refusal::BadLimit(at)) => at,
+        Err(Refusal::BadLink(at)) => at,
+        Err(Refusal::RepeatedLink(at)) => at,
+        Err(Refusal::ShortRoom) => 0,
+        Err(Refusal::HasLinks) => 0,
+        Err(Refusal::NotControllable) => 0,
+        Err(Refusal::ReasonsListed(lines)) => lines,
+        Err(Refusal::NotClosed) => 0,
     }
 }
 
@@ -54,5 +54,5 @@ pub fn place(a: Answer) -> u32
 pub fn accepted(a: Answer) -> bool
     ensures { result ≡ eqb (code_of a) 0 }
 {
-    code(a) == 0
+    a.is_ok()
 }

@@ -7,7 +7,7 @@ use native.Mathlib.Nat.{mul-le-mul_left, le_trans}
 use native.Mathlib.Omega.{arith}
 use lib.ListN.{length, get_or-eq_default}
 use lib.IntN.{ℤ, pos}
-use Rattle.rules.specs.declared.Answer.TheVariants.{Done, NotControllable}
+use Rattle.rules.specs.Answers.{Done, NotControllable}
 use Rattle.rules.specs.Plan.{Limit, Plan, version1}
 use Rattle.rules.specs.Walks.{Uncontrollable}
 use Rattle.rules.specs.Cells.{Table, table_of}

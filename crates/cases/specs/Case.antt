@@ -1,7 +1,6 @@
 -- A worked plan, what is said of it, and when that holds of the definitions. Assumes nothing.
 use Rattle.std.specs.Prelude.{◌≡◌, List, [], ◌∷◌, ℕ, zero, ◌≤◌, ◌<◌, length, get_or, ℤ, pos, neg_ℤ}
-use Rattle.rules.specs.declared.Answer.{Answer}
-use Rattle.rules.specs.declared.Answer.TheVariants.{Done, NotControllable}
+use Rattle.rules.specs.Answers.{Answer, Done, NotControllable}
 use Rattle.rules.specs.Plan.{Limit, Plan, version1}
 use Rattle.rules.specs.Walks.{Uncontrollable}
 use Rattle.rules.specs.Cells.{num, Table, table_of}

@@ -7,10 +7,8 @@ use Prim.Native.Nat.{ℕ, ◌≤◌, ◌<◌}
 use native.Mathlib.Omega.{arith}
 use lib.ListN.{length}
 use lib.IntN.{ℤ}
-use Rattle.rules.specs.declared.Answer.{Answer}
-use Rattle.rules.specs.declared.Answer.TheVariants.{Done, ShortRoom, ReasonsListed}
+use Rattle.rules.specs.Answers.{Answer, Done, ShortRoom, ReasonsListed, code_of, place_of}
 use Rattle.rules.specs.Plan.{Plan, Ranges, InRange}
-use Rattle.rules.specs.Answers.{code_of, place_of}
 use Rattle.rules.specs.Walks.{Uncontrollable}
 use Rattle.rules.specs.Cells.{table_of}
 use Rattle.rules.specs.Calls.{RoomForTables, Judged}

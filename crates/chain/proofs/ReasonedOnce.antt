@@ -7,8 +7,7 @@ use Prim.Native.Nat.{ℕ, ◌≤◌, ◌<◌}
 use native.Mathlib.Omega.{arith}
 use lib.ListN.{length}
 use lib.IntN.{ℤ}
-use Rattle.rules.specs.declared.Answer.{Answer}
-use Rattle.rules.specs.declared.Answer.TheVariants.{ReasonsListed}
+use Rattle.rules.specs.Answers.{Answer, ReasonsListed}
 use Rattle.rules.specs.Plan.{Plan}
 use Rattle.rules.proofs.Lists.{same_parts, filled_once}
 use Rattle.chain.specs.Lines.{Line}

@@ -1,10 +1,8 @@
 -- Document 02, item 4: what the call answers and what it leaves in each lent cell, for all inputs. `file` is what the file's bytes answer, p the plan they hold, the
 -- lists are the lent slices before and after. Assumes nothing.
 use Rattle.std.specs.Prelude.{◌≡◌, ◌≢◌, ◌⊎◌, ◌↔◌, true, false, List, ℕ, zero, ◌*◌, ◌≤◌, ◌<◌, min, length, get_or, ℤ, pos}
-use Rattle.rules.specs.declared.Answer.{Answer}
-use Rattle.rules.specs.declared.Answer.TheVariants.{Done, ShortRoom, ReasonsListed}
+use Rattle.rules.specs.Answers.{Answer, Done, ShortRoom, ReasonsListed, code_of, place_of}
 use Rattle.rules.specs.Plan.{Plan, Ranges, InRange}
-use Rattle.rules.specs.Answers.{code_of, place_of}
 use Rattle.rules.specs.Walks.{Uncontrollable}
 use Rattle.rules.specs.Calls.{cells_of, Filled, RoomForTables, Judged}
 use Rattle.chain.specs.Lines.{Line, line_at}

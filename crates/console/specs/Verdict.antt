@@ -1,7 +1,6 @@
 -- The small program "writes `controllable` or `refused CODE PLACE`, then a line feed". Assumes nothing.
 use Rattle.std.specs.Prelude.{List, ◌++◌, ℕ, if◌then◌else◌, ◌==◌, codes, decimal}
-use Rattle.rules.specs.declared.Answer.{Answer}
-use Rattle.rules.specs.Answers.{code_of, place_of}
+use Rattle.rules.specs.Answers.{Answer, code_of, place_of}
 
 -- the verdict of an answer: 0 says that the plan is controllable, any other code that it is refused
 abbrev pub verdict_of : Answer → List ℕ

@@ -10,12 +10,10 @@ use lib.ListN.{length}
 use lib.IntN.{ℤ, pos}
 use denote.Ref.{Bor}
 use borrow.Author.Tests.{leb-false, ltb-false}
-use Rattle.rules.specs.declared.Answer.{Answer}
-use Rattle.rules.specs.declared.Answer.TheVariants.{Done, FewBytes, BadVersion, BadPoints, BadCounts, BadLayout, BadLimit, BadLink, RepeatedLink, ShortRoom, HasLinks, NotControllable, ReasonsListed, NotClosed}
+use Rattle.rules.specs.Answers.{Answer, Done, FewBytes, BadVersion, BadPoints, BadCounts, BadLayout, BadLimit, BadLink, RepeatedLink, ShortRoom, HasLinks, NotControllable, ReasonsListed, NotClosed, code_of, place_of}
 use Rattle.rules.specs.declared.Side.{Side}
 use Rattle.rules.specs.declared.Side.TheVariants.{Strict, Open}
 use Rattle.rules.specs.Plan.{Limit, version1, InRange}
-use Rattle.rules.specs.Answers.{code_of, place_of}
 use Rattle.rules.specs.Calls.{Kept, Filled, Judged, Checked, Timed, Added}
 use Rattle.rules.specs.Rows.{chosen, has_row, OwnCells, RowHanded}
 use Rattle.rules.proofs.OneAnswer.{judged_once, checked_once, timed_once, added_once}

@@ -5,8 +5,7 @@ use mathlib.Core.List.{List}
 use Prim.Native.Nat.{ℕ}
 use native.Mathlib.Omega.{arith}
 use lib.IntN.{ℤ}
-use Rattle.rules.specs.declared.Answer.{Answer}
-use Rattle.rules.specs.declared.Answer.TheVariants.{Done, ShortRoom, NotControllable, NotClosed}
+use Rattle.rules.specs.Answers.{Answer, Done, ShortRoom, NotControllable, NotClosed}
 use Rattle.rules.specs.Plan.{Plan, version1, InRange}
 use Rattle.rules.specs.Walks.{Uncontrollable}
 use Rattle.rules.specs.Cells.{table_of}

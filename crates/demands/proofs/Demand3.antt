@@ -9,10 +9,8 @@ use native.Mathlib.Omega.{arith}
 use lib.ListN.{length, get_or}
 use lib.IntN.{ℤ, pos}
 use Rattle.whole.proofs.Place.{Spot, spot}
-use Rattle.rules.specs.declared.Answer.{Answer}
-use Rattle.rules.specs.declared.Answer.TheVariants.{Done, NotControllable, NotClosed}
+use Rattle.rules.specs.Answers.{Answer, Done, NotControllable, NotClosed, code_of}
 use Rattle.rules.specs.Plan.{Limit, Link, Plan, version1, InRange, LimitInRange}
-use Rattle.rules.specs.Answers.{code_of}
 use Rattle.rules.specs.Edges as edges
 use Rattle.rules.specs.Edges.{Given}
 use Rattle.rules.specs.Walks.{Uncontrollable}

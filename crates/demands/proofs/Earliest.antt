@@ -5,10 +5,8 @@ use Prim.Native.Nat.{ℕ, zero}
 use native.Mathlib.Omega.{arith}
 use lib.ListN.{get_or}
 use lib.IntN.{ℤ, pos, neg_ℤ, neg_ℤ-neg_ℤ}
-use Rattle.rules.specs.declared.Answer.{Answer}
-use Rattle.rules.specs.declared.Answer.TheVariants.{Done}
+use Rattle.rules.specs.Answers.{Answer, Done, code_of}
 use Rattle.rules.specs.Plan.{Plan, version1, InRange}
-use Rattle.rules.specs.Answers.{code_of}
 use Rattle.rules.specs.Cells.{num, table_of}
 use Rattle.rules.specs.Calls.{Written, TimesOf, Timed}
 use Rattle.rules.proofs.Points.{in_range_pointed}

@@ -6,10 +6,8 @@ use Prim.Native.Nat.{ℕ, ◌≤◌}
 use native.Mathlib.Omega.{arith}
 use lib.Dec.{leb, eqb}
 use lib.ListN.{length}
-use Rattle.rules.specs.declared.Answer.{Answer}
-use Rattle.rules.specs.declared.Answer.TheVariants.{Done, FewBytes, BadVersion, BadPoints, BadCounts, BadLayout, BadLimit, BadLink, RepeatedLink, ShortRoom, HasLinks, NotControllable, ReasonsListed, NotClosed}
+use Rattle.rules.specs.Answers.{Answer, Done, FewBytes, BadVersion, BadPoints, BadCounts, BadLayout, BadLimit, BadLink, RepeatedLink, ShortRoom, HasLinks, NotControllable, ReasonsListed, NotClosed, code_of}
 use Rattle.rules.specs.Plan.{Limit, version1}
-use Rattle.rules.specs.Answers.{code_of}
 use Rattle.answers.specs.Order.{◌then◌, unless}
 use Rattle.plan.specs.declared.Header.{Header}
 use Rattle.plan.specs.Layout.{head_of, plan_of}

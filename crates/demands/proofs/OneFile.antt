@@ -15,7 +15,7 @@ use borrow.Author.Tests.{eqb-true, eq-eqb, le-leb}
 use Rattle.whole.proofs.Order.{ints}
 use Rattle.whole.proofs.Bits.{le_z_true}
 use Rattle.rules.specs.Plan.{Limit, Plan, version1, LimitInRange, InRange}
-use Rattle.rules.specs.declared.Answer.TheVariants.{Done}
+use Rattle.rules.specs.Answers.{Done}
 use Rattle.rules.specs.Demands.{AllIn}
 use Rattle.rules.proofs.Different.{Different, no_longer}
 use Rattle.plan.specs.Layout.{plan_of, plan_bytes}

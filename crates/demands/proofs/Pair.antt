@@ -4,8 +4,7 @@ use mathlib.Core.Logic.{◌≢◌, ◌↔◌}
 use mathlib.Core.List.{List}
 use Prim.Native.Nat.{ℕ}
 use lib.IntN.{ℤ}
-use Rattle.rules.specs.declared.Answer.{Answer}
-use Rattle.rules.specs.declared.Answer.TheVariants.{Done}
+use Rattle.rules.specs.Answers.{Answer, Done}
 use Rattle.rules.specs.Plan.{version1}
 use Rattle.rules.specs.Calls.{Judged}
 use Rattle.plan.specs.Layout.{plan_of}

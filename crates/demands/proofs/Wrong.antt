@@ -10,8 +10,7 @@ use lib.ListN.{length, get_or}
 use lib.IntN.{ℤ, pos}
 use lib.Signed.{◌≤ℤ◌}
 use Rattle.whole.proofs.Order.{ints, plus}
-use Rattle.rules.specs.declared.Answer.{Answer}
-use Rattle.rules.specs.declared.Answer.TheVariants.{Done, NotControllable, NotClosed}
+use Rattle.rules.specs.Answers.{Answer, Done, NotControllable, NotClosed}
 use Rattle.rules.specs.Plan.{Limit, Plan, version1, LimitInRange}
 use Rattle.rules.specs.Edges as edges
 use Rattle.rules.specs.Edges.{Derivable}

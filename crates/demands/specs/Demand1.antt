@@ -3,10 +3,9 @@
 -- statement fixes. Assumes nothing.
 use Rattle.std.specs.Prelude.{◌≡◌, ◌⊎◌, true, List, [], ℕ, zero, ◌+◌, ◌*◌, ◌≤◌, ◌<◌, length, get_or, ℤ, pos}
 use Rattle.std.specs.Borrow.{Bor}
-use Rattle.rules.specs.declared.Answer.{Answer}
+use Rattle.rules.specs.Answers.{Answer, code_of, place_of}
 use Rattle.rules.specs.declared.Side.{Side}
 use Rattle.rules.specs.Plan.{Limit, version1}
-use Rattle.rules.specs.Answers.{code_of, place_of}
 use Rattle.rules.specs.Calls.{cells_of, scratch_of, Kept, Filled, Marked, Judged, Checked, Timed, Added}
 use Rattle.rules.specs.Rows.{chosen, has_row, OwnCells, RowHanded}
 use Rattle.plan.specs.Layout.{plan_of}

@@ -1,8 +1,7 @@
 -- The second demand: Judge refuses exactly the uncontrollable plans and else writes the least walk totals; Check accepts exactly the closed tables, so
 -- everything that Judge writes, and nothing for an uncontrollable plan. Assumes nothing.
 use Rattle.std.specs.Prelude.{◌≡◌, ◌≢◌, ◌⊎◌, ◌↔◌, List, ℕ, ◌*◌, ◌-◌, ◌<◌, ℤ}
-use Rattle.rules.specs.declared.Answer.{Answer}
-use Rattle.rules.specs.declared.Answer.TheVariants.{Done, NotControllable}
+use Rattle.rules.specs.Answers.{Answer, Done, NotControllable}
 use Rattle.rules.specs.Plan.{version1}
 use Rattle.rules.specs.Walks.{Uncontrollable}
 use Rattle.rules.specs.Cells.{Within, table_of}

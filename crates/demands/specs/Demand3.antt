@@ -3,8 +3,7 @@
 use Rattle.std.specs.Prelude.{◌≡◌, ◌≢◌, ◌⊎◌, Bool, false, ◌&&◌, ◌||◌, cond, ℕ, zero, ◌≤◌, ◌<◌, eqb, length, get_or, ℤ, pos}
 use mathlib.Core.List.{List, [], ◌∷◌, ◌++◌, Memᴰ}
 use Rattle.std.specs.Int.Signed.{le_z}
-use Rattle.rules.specs.declared.Answer.{Answer}
-use Rattle.rules.specs.declared.Answer.TheVariants.{Done, NotControllable, NotClosed}
+use Rattle.rules.specs.Answers.{Answer, Done, NotControllable, NotClosed}
 use Rattle.rules.specs.Plan.{Limit, LimitInRange, version1}
 use Rattle.rules.specs.Walks.{Uncontrollable}
 use Rattle.rules.specs.Additions.{with_limits}

@@ -1,6 +1,6 @@
 -- What Earliest's times are: "the earliest timetable of a plan without links". Assumes nothing.
 use Rattle.std.specs.Prelude.{List, ℕ, zero, get_or, ℤ, pos}
-use Rattle.rules.specs.declared.Answer.TheVariants.{Done}
+use Rattle.rules.specs.Answers.{Done}
 use Rattle.rules.specs.Plan.{version1}
 use Rattle.rules.specs.Times.{EarliestTimes}
 use Rattle.rules.specs.Calls.{Timed}

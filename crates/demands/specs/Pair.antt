@@ -2,8 +2,7 @@
 -- (codes 1 to 8), one fills the tables and still refuses unsound files, since flash can change." What the two come to together, of any Sound and
 -- any Judge. Assumes nothing.
 use Rattle.std.specs.Prelude.{◌≡◌, ◌≢◌, ◌⊎◌, ◌↔◌, List, ℕ, ℤ}
-use Rattle.rules.specs.declared.Answer.{Answer}
-use Rattle.rules.specs.declared.Answer.TheVariants.{Done, NotControllable}
+use Rattle.rules.specs.Answers.{Answer, Done, NotControllable}
 use Rattle.rules.specs.Calls.{RoomForTables}
 use Rattle.plan.specs.Layout.{plan_of}
 use Rattle.plan.specs.File.{PlanFile}

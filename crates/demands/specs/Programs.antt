@@ -1,7 +1,7 @@
 -- A Sound, a Judge, a Check and an Add, as far as the demands can see one: which answer it may give, and what it may leave in each lent cell, for what
 -- it is lent. The demands speak of any; ours are the statements that the calls are proved to meet. Assumes nothing.
 use Rattle.std.specs.Prelude.{◌≡◌, List, ℕ, ℤ}
-use Rattle.rules.specs.declared.Answer.{Answer}
+use Rattle.rules.specs.Answers.{Answer}
 use Rattle.rules.specs.Plan.{Limit, version1}
 use Rattle.rules.specs.Calls.{Judged, Checked, Added}
 use Rattle.plan.specs.Layout.{plan_of}

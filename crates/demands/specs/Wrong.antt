@@ -1,8 +1,7 @@
 -- Document 01, "What each statement must determine": "Try these on demands 2 and 3 together". Each of its wrong programs, as any call that behaves so, and that no such
 -- call meets the demands. Assumes nothing.
 use Rattle.std.specs.Prelude.{◌≡◌, ◌≢◌, List, [], ℕ, ℤ}
-use Rattle.rules.specs.declared.Answer.{Answer}
-use Rattle.rules.specs.declared.Answer.TheVariants.{Done, NotControllable, NotClosed}
+use Rattle.rules.specs.Answers.{Answer, Done, NotControllable, NotClosed}
 use Rattle.rules.specs.Plan.{Limit}
 use Rattle.plan.specs.Layout.{plan_of}
 use Rattle.demands.specs.Programs.{AJudge, ACheck, AnAdd}

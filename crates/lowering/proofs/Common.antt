@@ -12,7 +12,7 @@ pub use Rattle.whole.proofs.Bits.{back}
 pub use Rattle.whole.proofs.Place.{inside, square_le, within}
 pub use Rattle.rules.specs.Cells.{Within, ◌≤ᶜ◌, num, table_of}
 unfoldable pub use Rattle.rules.specs.Plan.{version1}
-pub use Rattle.rules.specs.declared.Answer.TheVariants.{Done}
+pub use Rattle.rules.specs.Answers.{Done}
 pub use Rattle.rules.proofs.Demands.{version1_coherent}
 pub use Rattle.plan.specs.File.{file_answer}
 pub use Rattle.plan.specs.Layout.{limit_at, link_at}

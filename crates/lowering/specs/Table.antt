@@ -1,6 +1,6 @@
 -- What the functions of this crate are lent: a sound file with its counts, and lists with room for a table. Assumes nothing.
 use Rattle.std.specs.Prelude.{◌≡◌, List, ℕ, zero, ◌*◌, ◌≤◌, ◌<◌, length, get_or, ℤ, pos}
-use Rattle.rules.specs.declared.Answer.TheVariants.{Done}
+use Rattle.rules.specs.Answers.{Done}
 use Rattle.rules.specs.Plan.{Ranges}
 use Rattle.rules.specs.Cells.{cell_of, table_of}
 use Rattle.plan.specs.Layout.{head_of}

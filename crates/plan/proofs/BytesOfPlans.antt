@@ -17,7 +17,7 @@ use lib.Signed.{mag, ◌≤ℤ◌}
 use Rattle.fields.specs.Bytes.{byte_at, word_at, signed_of, signed_at, AllBytes, word_bytes, bits_of}
 use Rattle.fields.proofs.FieldBytes.{bytes_injective, bytes_at, word_fits, words_bytes, bits_fit, signed_bits, bits_at}
 use Rattle.rules.specs.Plan.{Limit, Link, Plan, Ranges, version1, InRange}
-use Rattle.rules.specs.declared.Answer.TheVariants.{Done}
+use Rattle.rules.specs.Answers.{Done}
 use Rattle.plan.specs.declared.Header.{Header}
 use Rattle.plan.specs.Layout.{head_of, limit_offset, link_offset, limit_at, link_at, records, plan_of}
 use Rattle.plan.specs.Layout.{head_fields, limit_fields, link_fields, plan_fields, plan_bytes, FitsFields}

@@ -5,7 +5,7 @@ use mathlib.Core.List.{List, [], ◌∷◌, ◌++◌, flat_map}
 use Prim.Native.Nat.{ℕ}
 use lib.IntN.{pos}
 use Rattle.rules.specs.Plan.{Plan, version1}
-use Rattle.rules.specs.declared.Answer.TheVariants.{Done}
+use Rattle.rules.specs.Answers.{Done}
 use Rattle.fields.specs.Bytes.{word_at, signed_at, signed_of, word_bytes, bits_of}
 use Rattle.plan.specs.Layout.{head_of, limit_at, link_at, plan_of, plan_fields, plan_bytes}
 use Rattle.plan.specs.File.{counts_answer, limit_fits, link_fits, front_answer, plan_answer, file_answer}

@@ -11,11 +11,10 @@ use lib.ListN.{length}
 use borrow.Author.Tests.{ltb-true, ltb-false, leb-true, leb-false, eqb-true, lt-ltb, le-ltb}
 use borrow.Author.Count.{below_none, below_more}
 use Rattle.rules.specs.Plan.{Limit, Link, Ranges, version1, LimitInRange, LinkInRange}
-use Rattle.rules.specs.Answers.{code_of, place_of}
-use Rattle.rules.specs.declared.Answer.{Answer}
-use Rattle.rules.specs.declared.Answer.TheVariants.{Done, FewBytes, BadVersion, BadLimit}
+use Rattle.rules.specs.Answers.{code_of, place_of, Answer, Done, FewBytes, BadVersion, BadLimit}
 use Rattle.answers.specs.Order.{◌then◌, unless}
-use Rattle.answers.proofs.CodeZero.{code_zero}
+use Rattle.answers.proofs.CodeZero.{not_done}
+use Rattle.std.specs.Prelude.{Ok, Err}
 use Rattle.plan.specs.declared.Header.{Header}
 use Rattle.plan.specs.Layout.{head_of, limit_offset, link_offset, limit_at, link_at, records, earlier, plan_of}
 use Rattle.plan.specs.File.{laid_out, form_answer, counts_answer, weight_fits, contingent_fits, longest_fits, limit_tests, link_tests, limit_fits, link_fits}
@@ -177,7 +176,7 @@ parts s = rw (file_parts s, front_parts s, limits_length s)
 -- which of the three it is with a code of at least 6, and that those before are Done
 file_faults : (s : List ℕ) → 6 ≤ code_of (file_answer s) → (head_answer (length s) (head_of s) ≡ Done) × FileBlamed s (file_answer s)
 unfolding plan_of
-file_faults s h = by (eqb (code_of head) 0) refl (eqb (code_of (to_limits s)) 0) refl
+file_faults s h = by head refl (to_limits s) refl
   where
     head : Answer
     head = head_answer (length s) (head_of s)
@@ -188,22 +187,22 @@ file_faults s h = by (eqb (code_of head) 0) refl (eqb (code_of (to_limits s)) 0)
     m : ℕ
     m = (head_of s).limits
 
-    by : (t : Bool) → eqb (code_of head) 0 ≡ t → (u : Bool) → eqb (code_of (to_limits s)) 0 ≡ u → (head ≡ Done) × FileBlamed s (file_answer s)
-    by false e u f =
+    by : (a : Answer) → head ≡ a → (b : Answer) → to_limits s ≡ b → (head ≡ Done) × FileBlamed s (file_answer s)
+    by (Err r) e b f =
         let is : file_answer s ≡ head = parts s ∙ simp e in
         absurd (omega (arith, head_code (length s) (head_of s), ap code_of is))
-    by true e false f =
+    by (Ok done) e (Err r) f =
         let is : file_answer s ≡ to_limits s = parts s ∙ simp (e, f) in
-        let refused : to_limits s ≢ Done = λ d. true≢false (sym (ap (λ (a : Answer). eqb (code_of a) 0) d) ∙ f) in
-        (code_zero head e, rw is (FileBlamed.by_limit (rw zero-add at (limits_found version1 n (limit_at s) 0 m (below_none _) refused))))
-    by true e true f =
+        let refused : to_limits s ≢ Done = λ d. not_done (sym f ∙ d) in
+        (e, rw is (FileBlamed.by_limit (rw zero-add at (limits_found version1 n (limit_at s) 0 m (below_none _) refused))))
+    by (Ok done) e (Ok tt) f =
         let is : file_answer s ≡ to_links s = parts s ∙ simp (e, f) in
         let refused : to_links s ≢ Done = λ d. omega (arith, ap code_of (is ∙ d)) in
         let none : LinksBefore version1 n (link_at s m) 0 =
         record { in_range = below_none _; apart = λ j h l g. absurd (omega arith) } in
         let ranged : (j : ℕ) → j < m → LimitInRange version1 n (limit_at s j) =
-        λ j l. limits_ok version1 n 0 (records (limit_at s) 0 m) (code_zero (to_limits s) f) (limit_at s j) (record_in (limit_at s) 0 m j (omega arith) (omega arith)) in
-        (code_zero head e, rw is (FileBlamed.by_link ranged (rw zero-add at (links_found version1 n m (link_at s m) 0 (head_of s).links none refused))))
+        λ j l. limits_ok version1 n 0 (records (limit_at s) 0 m) f (limit_at s j) (record_in (limit_at s) 0 m j (omega arith) (omega arith)) in
+        (e, rw is (FileBlamed.by_link ranged (rw zero-add at (links_found version1 n m (link_at s m) 0 (head_of s).links none refused))))
 
 -- a field at fault lies in its record
 limit_inside : {r : Ranges} {n : ℕ} {m : Limit} {field : ℕ} → LimitFault r n m field → field + 4 ≤ 12

@@ -5,7 +5,7 @@ use mathlib.Core.List.{List}
 use Prim.Native.Nat.{ℕ}
 use lib.ListN.{length}
 use Rattle.rules.specs.Plan.{version1}
-use Rattle.rules.specs.declared.Answer.{Answer}
+use Rattle.rules.specs.Answers.{Answer}
 use Rattle.answers.specs.Order.{◌then◌}
 use Rattle.answers.proofs.CodeZero.{then_assoc}
 use Rattle.plan.specs.declared.Header.{Header}

@@ -7,7 +7,7 @@ use native.Mathlib.Nat.{add-zero}
 use lib.Dec.{leb, ltb}
 use Rattle.std.proofs.lemmas.Bool.{le-ltb, lt-ltb, le-leb, lt-leb}
 use Rattle.rules.specs.Plan.{Limit, Link, Ranges}
-use Rattle.rules.specs.declared.Answer.TheVariants.{Done, BadLimit, BadLink, RepeatedLink}
+use Rattle.rules.specs.Answers.{Done, BadLimit, BadLink, RepeatedLink}
 use Rattle.plan.specs.Layout.{limit_offset, link_offset}
 use Rattle.plan.specs.File.{weight_fits, contingent_fits, longest_fits, limit_fits, link_fits, limit_answer, link_answer}
 use Rattle.plan.proofs.TestsMade.{failed, passed}

@@ -1,16 +1,15 @@
 -- The order of the answers: one after another, the first refusal stands. The laws take what the calls ensure as it comes: h is
--- the header that was read, a and b are answers, t is what was said of whether a is no refusal. Assumes nothing.
-use mathlib.Core.Path.{◌≡◌, ◌∙◌}
+-- the header that was read, a and b are answers. Assumes nothing.
+use mathlib.Core.Path.{◌≡◌, sym, ◌∙◌}
 use mathlib.Core.Bool.{Bool, true, false, not}
 use mathlib.Core.List.{List, []}
 use Prim.Native.Nat.{ℕ, ◌≤◌, ◌<◌}
-use lib.Dec.{eqb}
+use Rattle.std.specs.Prelude.{Ok, Err}
 use lib.ListN.{length}
 use borrow.Author.Tests.{le-leb, lt-leb, eq-eqb, ne_eqb, not-true, not-false}
 use Rattle.rules.specs.Plan.{Limit, Ranges, version1}
-use Rattle.rules.specs.Answers.{code_of}
-use Rattle.rules.specs.declared.Answer.{Answer}
-use Rattle.rules.specs.declared.Answer.TheVariants.{Done, FewBytes, BadVersion, BadPoints, BadCounts, BadLayout}
+use Rattle.rules.specs.Answers.{Answer, Done, FewBytes, BadVersion, BadPoints, BadCounts, BadLayout}
+use Rattle.rules.specs.declared.Refusal.{Refusal}
 use Rattle.plan.specs.declared.Header.{Header}
 use Rattle.plan.specs.Layout.{head_of, limit_at, link_at, records, plan_of}
 use Rattle.plan.specs.File.{points_fit, counts_fit, laid_out, form_answer, counts_answer, limit_answer, limits_answer, links_answer, file_front, file_answer, add_answer}
@@ -18,7 +17,6 @@ use Rattle.answers.proofs.CodeZero.{then_done}
 use Rattle.plan.proofs.FileParts.{limits_length, head_answer, to_limits, front_parts, file_parts}
 use Rattle.plan.proofs.TestsMade.{failed, passed}
 use Rattle.plan.proofs.TestsDecide.{CountsOk, counts_ok}
-use Rattle.plan.proofs.SoundFile.{is_accepted}
 
 -- ---- n, m and k
 
@@ -63,37 +61,37 @@ head_counts size h e =
     counts_ok version1 h.points h.limits h.links laid
     (then_done (form_answer size h) (counts_answer version1 h.points h.limits h.links laid) e).1
 
-module _ (s : List ℕ) {a : Answer} {t : Bool} (e : t ≡ eqb (code_of a) 0) where
+module _ (s : List ℕ) {a : Answer} where
   -- ---- the header, then the limits
 
   module _ {h : Header} (q : h ≡ head_of s) (p : a ≡ head_answer (length s) h) where
-    pub front_stop : t ≡ false → a ≡ file_front s
-    front_stop u = rw (front_parts s, ← q, ← p, failed e u)
+    pub front_stop : {r : Refusal} → a ≡ Err r → Err r ≡ file_front s
+    front_stop u = rw (front_parts s, ← q, ← p, u)
 
-    pub past_head : t ≡ true → h.limits ≤ version1.limits
-    past_head u = (head_counts (length s) h (is_accepted (head_answer (length s) h) p e u)).limits
+    pub past_head : a ≡ Done → h.limits ≤ version1.limits
+    past_head u = (head_counts (length s) h (sym p ∙ u)).limits
 
-    pub front_next : t ≡ true
+    pub front_next : a ≡ Done
         → {b : Answer}
         → b ≡ limits_answer version1 h.points 0 (records (limit_at s) 0 h.limits)
         → b ≡ file_front s
     unfolding plan_of
-    front_next u r = rw (front_parts s, ← q, ← p, passed e u) r
+    front_next u r = rw (front_parts s, ← q, ← p, u) r
 
   -- ---- those, then the links
 
   module _ (p : a ≡ file_front s) where
-    pub file_stop : t ≡ false → a ≡ file_answer s
-    file_stop u = rw (file_parts s, ← p, failed e u)
+    pub file_stop : {r : Refusal} → a ≡ Err r → Err r ≡ file_answer s
+    file_stop u = rw (file_parts s, ← p, u)
 
-    pub add_stop : (added : Limit) → t ≡ false → a ≡ add_answer s added
+    pub add_stop : (added : Limit) {r : Refusal} → a ≡ Err r → Err r ≡ add_answer s added
     unfolding add_answer
-    add_stop added u = rw (← p, failed e u)
+    add_stop added u = rw (← p, u)
 
-    module _ (u : t ≡ true) {h : Header} (q : h ≡ head_of s) where
+    module _ (u : a ≡ Done) {h : Header} (q : h ≡ head_of s) where
       past_front : CountsOk version1 h.points h.limits h.links (laid_out (length s) h)
       past_front =
-          let d = rw front_parts at (is_accepted (file_front s) p e u) in
+          let d = rw front_parts at (sym p ∙ u) in
           rw q (head_counts (length s) (head_of s) (then_done (head_answer (length s) (head_of s)) (to_limits s) d).0)
 
       pub past_front_limits : h.limits ≤ version1.limits
@@ -106,17 +104,17 @@ module _ (s : List ℕ) {a : Answer} {t : Bool} (e : t ≡ eqb (code_of a) 0) wh
           → b ≡ links_answer version1 h.points h.limits 0 [] (records (link_at s h.limits) 0 h.links)
           → b ≡ file_answer s
       unfolding plan_of
-      file_next r = rw (file_parts s, ← p, passed e u, limits_length s, ← q) r
+      file_next r = rw (file_parts s, ← p, u, limits_length s, ← q) r
 
-      -- ---- Add's limit between them: o is its answer, y whether that is no refusal
-      module _ (added : Limit) {o : Answer} (f : o ≡ limit_answer version1 h.points h.limits added) {y : Bool} (g : y ≡ eqb (code_of o) 0) where
-        pub add_own : y ≡ false → o ≡ add_answer s added
+      -- ---- Add's limit between them: o is its answer
+      module _ (added : Limit) {o : Answer} (f : o ≡ limit_answer version1 h.points h.limits added) where
+        pub add_own : {r : Refusal} → o ≡ Err r → Err r ≡ add_answer s added
         unfolding add_answer plan_of
-        add_own v = rw (← p, passed e u, ← q, ← f, failed g v)
+        add_own v = rw (← p, u, ← q, ← f, v)
 
-        pub add_next : y ≡ true
+        pub add_next : o ≡ Done
             → {b : Answer}
             → b ≡ links_answer version1 h.points h.limits 0 [] (records (link_at s h.limits) 0 h.links)
             → b ≡ add_answer s added
         unfolding add_answer plan_of
-        add_next v r = rw (← p, passed e u, limits_length s, ← q, ← f, passed g v) r
+        add_next v r = rw (← p, u, limits_length s, ← q, ← f, v) r

@@ -1,13 +1,11 @@
 -- What holds of Done and of every refusal that a plan can get holds of its answer. Assumes nothing.
-use mathlib.Core.Bool.{Bool, true, false, cond}
+use mathlib.Core.Bool.{Bool, true, false}
 use mathlib.Core.List.{List, [], ◌∷◌}
 use Prim.Native.Nat.{ℕ, suc}
-use lib.Dec.{eqb}
+use Rattle.std.specs.Prelude.{Ok, Err}
 use lib.ListN.{length}
 use Rattle.rules.specs.Plan.{Limit, Link, Plan, Ranges}
-use Rattle.rules.specs.Answers.{code_of}
-use Rattle.rules.specs.declared.Answer.{Answer}
-use Rattle.rules.specs.declared.Answer.TheVariants.{Done, BadPoints, BadCounts, BadLayout, BadLimit, BadLink, RepeatedLink}
+use Rattle.rules.specs.Answers.{Answer, Done, BadPoints, BadCounts, BadLayout, BadLimit, BadLink, RepeatedLink}
 use Rattle.answers.specs.Order.{◌then◌, unless}
 use Rattle.plan.specs.File.{points_fit, counts_fit, counts_answer, limit_fits, link_fits, fresh, limit_place, link_place, repeat_place}
 use Rattle.plan.specs.File.{limit_answer, limits_answer, link_answer, links_answer, front_answer, back_answer, plan_answer}
@@ -22,11 +20,8 @@ pub record Refusals (P : Answer → Type 0) : Type 0 where
   pub repeated : (i : ℕ) → P (RepeatedLink i)
 
 pub then_holds : (P : Answer → Type 0) (a b : Answer) → P a → P b → P (a then b)
-then_holds P a b h k = by (eqb (code_of a) 0)
-  where
-    by : (t : Bool) → P (cond t b a)
-    by true = k
-    by false = h
+then_holds P (Ok tt) b h k = k
+then_holds P (Err r) b h k = h
 
 pub unless_holds : (P : Answer → Type 0) (t : Bool) (a : Answer) → P Done → P a → P (unless t a)
 unless_holds P true a d h = d

@@ -7,8 +7,7 @@ use mathlib.Core.List.{[]}
 use Prim.Native.Nat.{ℕ}
 use lib.ListN.{length}
 use Rattle.rules.specs.Plan.{Plan, Ranges, InRange}
-use Rattle.rules.specs.declared.Answer.{Answer}
-use Rattle.rules.specs.declared.Answer.TheVariants.{Done}
+use Rattle.rules.specs.Answers.{Answer, Done}
 use Rattle.answers.specs.Order.{◌then◌}
 use Rattle.answers.proofs.CodeZero.{then_done, done_then}
 use Rattle.plan.specs.File.{counts_answer, limits_answer, front_answer, back_answer, plan_answer}

@@ -7,14 +7,12 @@ use Prim.Native.Nat.{ℕ, suc, ◌+◌, ◌-◌, ◌≤◌, ◌<◌}
 use native.Mathlib.Numerals.{add-one}
 use native.Mathlib.Omega.{arith}
 use borrow.Author.Tests.{eq-eqb, ne_eqb}
-use lib.Dec.{eqb}
+use Rattle.std.specs.Prelude.{Ok, Err}
 use Rattle.rules.specs.Plan.{Limit, Link, Ranges}
-use Rattle.rules.specs.Answers.{code_of}
-use Rattle.rules.specs.declared.Answer.{Answer}
-use Rattle.rules.specs.declared.Answer.TheVariants.{Done}
+use Rattle.rules.specs.Answers.{Answer, Done}
+use Rattle.rules.specs.declared.Refusal.{Refusal}
 use Rattle.plan.specs.Layout.{records, earlier}
 use Rattle.plan.specs.File.{fresh, limit_answer, limits_answer, link_answer, links_answer}
-use Rattle.plan.proofs.TestsMade.{failed, passed}
 
 -- ---- the records that are left, and those passed
 
@@ -33,15 +31,15 @@ earlier_next f j h =
     let e : j ≡ suc (j - 1) = omega arith in
     ap (earlier f) e
 
--- ---- limits: a is the answer that is worked out, x is limit i as a call read it, b its answer, and t whether that is no refusal
+-- ---- limits: a is the answer that is worked out, x is limit i as a call read it, b its answer
 
 module _ (r : Ranges) (n : ℕ) (f : ℕ → Limit) (i m : ℕ) {a : Answer} (w : a ≡ limits_answer r n i (records f i (m - i))) where
-  module _ (h : i < m) {x : Limit} (e : x ≡ f i) {b : Answer} (q : b ≡ limit_answer r n i x) {t : Bool} (s : t ≡ eqb (code_of b) 0) where
-    pub limits_next : t ≡ true → a ≡ limits_answer r n (i + 1) (records f (i + 1) (m - (i + 1)))
-    limits_next u = w ∙ rw (records_next f i m h, ← e, ← q, passed s u, add-one)
+  module _ (h : i < m) {x : Limit} (e : x ≡ f i) {b : Answer} (q : b ≡ limit_answer r n i x) where
+    pub limits_next : b ≡ Done → a ≡ limits_answer r n (i + 1) (records f (i + 1) (m - (i + 1)))
+    limits_next u = w ∙ rw (records_next f i m h, ← e, ← q, u, add-one)
 
-    pub limits_stop : t ≡ false → b ≡ a
-    limits_stop u = sym (w ∙ rw (records_next f i m h, ← e, ← q, failed s u))
+    pub limits_stop : {z : Refusal} → b ≡ Err z → Err z ≡ a
+    limits_stop u = sym (w ∙ rw (records_next f i m h, ← e, ← q, u))
 
   pub limits_end : m ≤ i → Done ≡ a
   limits_end h = sym (w ∙ rw (records_end f i m h))
@@ -61,19 +59,19 @@ module _ (con : ℕ) (f : ℕ → Link) (j : ℕ) {a : Bool} (w : a ≡ fresh co
       let e : j ≡ 0 = omega arith in
       sym (w ∙ rw e)
 
--- ---- links: a is the answer, x is link i, d whether its contingent point is new, b its answer, and t whether that is no refusal
+-- ---- links: a is the answer, x is link i, d whether its contingent point is new, b its answer
 
 module _ (r : Ranges) (n m : ℕ) (f : ℕ → Link) (i k : ℕ) {a : Answer} (z : a ≡ links_answer r n m i (earlier f i) (records f i (k - i))) where
   module _ (h : i < k) {x : Link} (e : x ≡ f i) {d : Bool} (v : d ≡ fresh x.con (earlier f i))
-      {b : Answer} (q : b ≡ link_answer r n m i d x) {t : Bool} (s : t ≡ eqb (code_of b) 0) where
-    pub links_next : t ≡ true → a ≡ links_answer r n m (i + 1) (earlier f (i + 1)) (records f (i + 1) (k - (i + 1)))
+      {b : Answer} (q : b ≡ link_answer r n m i d x) where
+    pub links_next : b ≡ Done → a ≡ links_answer r n m (i + 1) (earlier f (i + 1)) (records f (i + 1) (k - (i + 1)))
     links_next u =
         z
-        ∙ rw (records_next f i k h, ← e, ← v, ← q, passed s u, add-one)
+        ∙ rw (records_next f i k h, ← e, ← v, ← q, u, add-one)
         (ap (λ (y : Link). links_answer r n m (suc i) (y ∷ earlier f i) (records f (suc i) (k - suc i))) e)
 
-    pub links_stop : t ≡ false → b ≡ a
-    links_stop u = sym (z ∙ rw (records_next f i k h, ← e, ← v, ← q, failed s u))
+    pub links_stop : {y : Refusal} → b ≡ Err y → Err y ≡ a
+    links_stop u = sym (z ∙ rw (records_next f i k h, ← e, ← v, ← q, u))
 
   pub links_end : k ≤ i → Done ≡ a
   links_end h = sym (z ∙ rw (records_end f i k h))

@@ -12,9 +12,7 @@ use lib.Dec.{leb, eqb}
 use lib.ListN.{length}
 use borrow.Author.Tests.{leb-true, eqb-true, le-leb, eq-eqb}
 use Rattle.rules.specs.Plan.{Limit, Link, version1, LimitInRange, LinkInRange, InRange}
-use Rattle.rules.specs.Answers.{code_of}
-use Rattle.rules.specs.declared.Answer.{Answer}
-use Rattle.rules.specs.declared.Answer.TheVariants.{Done, FewBytes, BadVersion}
+use Rattle.rules.specs.Answers.{code_of, Answer, Done, FewBytes, BadVersion}
 use Rattle.plan.specs.declared.Header.{Header}
 use Rattle.plan.specs.Layout.{head_of, limit_offset, link_offset, limit_at, link_at, plan_of}
 use Rattle.answers.specs.Order.{◌then◌, unless}
@@ -190,14 +188,6 @@ add_exactly s added = (there, back)
         let p = then_done (file_front s) (back_answer version1 (plan_of s)) (rw file_parts at g.0) in
         let taken = take_limit version1 (plan_of s).points (head_of s).limits added g.1 in
         done_then (file_front s) (own then back_answer version1 (plan_of s)) p.0 (done_then own (back_answer version1 (plan_of s)) taken p.1)
-
--- ---- from what the calls ensure: a is what `sound` or `sound_with` answered, t what `accepted` said of it
-
-pub is_accepted : {a : Answer} {t : Bool} (b : Answer) → a ≡ b → t ≡ eqb (code_of a) 0 → t ≡ true → b ≡ Done
-is_accepted {a} b p e u = sym p ∙ code_zero a (passed e u)
-
-pub not_accepted : {a : Answer} {t : Bool} (b : Answer) → a ≡ b → t ≡ eqb (code_of a) 0 → t ≡ false → b ≢ Done
-not_accepted b p e u d = true≢false (sym (ap (λ (x : Answer). eqb (code_of x) 0) (p ∙ d)) ∙ failed e u)
 
 -- the header that was read says how many points and cells there are
 pub header_points : (s : List ℕ) {h : Header} → h ≡ head_of s → (plan_of s).points ≡ h.points

@@ -11,7 +11,7 @@ use lib.IntN.{ℤ, pos, neg_ℤ}
 use lib.Signed.{le_z, ◌≤ℤ◌}
 use borrow.Author.Tests.{ltb-true, leb-true, eqb-false, not-true, lt-ltb, le-leb, ne_eqb}
 use Rattle.rules.specs.Plan.{Limit, Link, Ranges, LimitInRange, LinkInRange, Unshared}
-use Rattle.rules.specs.declared.Answer.TheVariants.{Done, BadPoints, BadCounts, BadLayout, BadLimit, BadLink, RepeatedLink}
+use Rattle.rules.specs.Answers.{Done, BadPoints, BadCounts, BadLayout, BadLimit, BadLink, RepeatedLink}
 use Rattle.plan.proofs.TestsMade.{both, and}
 use Rattle.answers.specs.Order.{◌then◌, unless}
 use Rattle.answers.proofs.CodeZero.{then_done, done_then, unless_done, done_unless}

@@ -2,9 +2,7 @@
 -- Assumes nothing.
 use Rattle.std.specs.Prelude.{◌≡◌, ◌≢◌, List, ℕ, ◌+◌, ◌≤◌, ◌<◌, length, pos, neg_ℤ, ◌≤ℤ◌}
 use Rattle.rules.specs.Plan.{Limit, Link, Ranges, version1, LimitInRange, LinkInRange}
-use Rattle.rules.specs.Answers.{code_of, place_of}
-use Rattle.rules.specs.declared.Answer.{Answer}
-use Rattle.rules.specs.declared.Answer.TheVariants.{Done, BadLimit, BadLink, RepeatedLink}
+use Rattle.rules.specs.Answers.{code_of, place_of, Answer, Done, BadLimit, BadLink, RepeatedLink}
 use Rattle.plan.specs.Layout.{head_of, limit_offset, link_offset, limit_at, link_at}
 use Rattle.plan.specs.File.{file_front, file_answer, add_answer}
 

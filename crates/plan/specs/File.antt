@@ -3,8 +3,7 @@
 use Rattle.std.specs.Prelude.{◌≡◌, Bool, true, not, ◌&&◌, cond, List, [], ◌∷◌, ℕ, suc, ◌+◌, ◌≤◌, leb, ltb, eqb, length, ℤ, pos, neg_ℤ}
 use Rattle.std.specs.Int.Signed.{le_z}
 use Rattle.rules.specs.Plan.{Limit, Link, Plan, Ranges, version1, InRange}
-use Rattle.rules.specs.declared.Answer.{Answer}
-use Rattle.rules.specs.declared.Answer.TheVariants.{Done, FewBytes, BadVersion, BadPoints, BadCounts, BadLayout, BadLimit, BadLink, RepeatedLink}
+use Rattle.rules.specs.Answers.{Answer, Done, FewBytes, BadVersion, BadPoints, BadCounts, BadLayout, BadLimit, BadLink, RepeatedLink}
 use Rattle.answers.specs.Order.{◌then◌, unless}
 use Rattle.plan.specs.declared.Header.{Header}
 use Rattle.plan.specs.Layout.{head_of, limit_offset, link_offset, plan_of}

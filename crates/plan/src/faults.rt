@@ -6,7 +6,7 @@ ghost use Rattle.plan.specs.File.{limit_answer, link_answer};
 
 use crate::fits::weight_fits;
 use crate::{Limit, Link};
-use rules::Answer;
+use rules::{Answer, Refusal};
 
 // The answer to a limit at an index, of a plan of n points.
 pub fn limit_answer(n: u32, i: u32, limit: Limit) -> Answer
@@ -18,15 +18,15 @@ pub fn limit_answer(n: u32, i: u32, limit: Limit) -> Answer
     let to = limit.to < n;
     let weight = weight_fits(limit.weight);
     if !from {
-        return Answer::BadLimit(at);
+        return Err(Refusal::BadLimit(at));
     }
     if !to {
-        return Answer::BadLimit(at + 4);
+        return Err(Refusal::BadLimit(at + 4));
     }
     if !weight {
-        return Answer::BadLimit(at + 8);
+        return Err(Refusal::BadLimit(at + 8));
     }
-    Answer::Done
+    Ok(())
 }
 
 // The answer to a link at an index, after m limits, of a plan of n points; `new` says whether no earlier link has its contingent point.
@@ -40,19 +40,19 @@ pub fn link_answer(n: u32, m: u32, i: u32, link: Link, new: bool) -> Answer
     let short = 1 <= link.short;
     let long = (link.short <= link.long) & (link.long <= 1_000_000);
     if !act {
-        return Answer::BadLink(at);
+        return Err(Refusal::BadLink(at));
     }
     if !con {
-        return Answer::BadLink(at + 4);
+        return Err(Refusal::BadLink(at + 4));
     }
     if !short {
-        return Answer::BadLink(at + 8);
+        return Err(Refusal::BadLink(at + 8));
     }
     if !long {
-        return Answer::BadLink(at + 12);
+        return Err(Refusal::BadLink(at + 12));
     }
     if !new {
-        return Answer::RepeatedLink(at + 4);
+        return Err(Refusal::RepeatedLink(at + 4));
     }
-    Answer::Done
+    Ok(())
 }

@@ -13,11 +13,10 @@ ghost use Rattle.rules.specs.Plan.{version1};
 ghost use Rattle.answers.specs.Order.{◌then◌};
 ghost use Rattle.plan.specs.File.{laid_out, form_answer, counts_answer, file_front, file_answer, add_answer};
 
-use answers::accepted;
 pub use faults::{limit_answer, link_answer};
 use fits::{counts_fit, laid_out, points_fit};
 pub use record::{head, limit_at, link_at};
-use rules::Answer;
+use rules::{Answer, Refusal};
 use scan::{limits, links};
 
 // A limit: point `to` comes at most `weight` after point `from`.
@@ -53,15 +52,15 @@ pub fn counts_answer(n: u32, m: usize, k: usize, laid: bool) -> Answer
     ensures { result ≡ counts_answer version1 n m k laid }
 {
     if !points_fit(n) {
-        return Answer::BadPoints;
+        return Err(Refusal::BadPoints);
     }
     if !counts_fit(m, k) {
-        return Answer::BadCounts;
+        return Err(Refusal::BadCounts);
     }
     if !laid {
-        return Answer::BadLayout;
+        return Err(Refusal::BadLayout);
     }
-    Answer::Done
+    Ok(())
 }
 
 // Codes 1 to 5, of a file of so many bytes with such a header.
@@ -69,10 +68,10 @@ fn head_answer(size: usize, h: Header) -> Answer
     ensures { result ≡ (form_answer size h then counts_answer version1 h.points h.limits h.links (laid_out size h)) }
 {
     if size < 24 {
-        return Answer::FewBytes;
+        return Err(Refusal::FewBytes);
     }
     if h.version != 1 {
-        return Answer::BadVersion;
+        return Err(Refusal::BadVersion);
     }
     let laid = laid_out(size, h);
     counts_answer(h.points, h.limits as usize, h.links as usize, laid)
@@ -83,10 +82,7 @@ fn front(file: &[u8]) -> Answer
     ensures { result ≡ file_front file.now }
 {
     let h = head(file);
-    let a = head_answer(file.len(), h);
-    if !accepted(a) {
-        return a;
-    }
+    head_answer(file.len(), h)?;
     limits(file, h.points, h.limits)
 }
 
@@ -94,10 +90,7 @@ fn front(file: &[u8]) -> Answer
 pub fn sound(file: &[u8]) -> Answer
     ensures { result ≡ file_answer file.now }
 {
-    let a = front(file);
-    if !accepted(a) {
-        return a;
-    }
+    front(file)?;
     let h = head(file);
     links(file, h.points, h.limits, h.links)
 }
@@ -106,19 +99,13 @@ pub fn sound(file: &[u8]) -> Answer
 pub fn sound_with(file: &[u8], x: u32, y: u32, w: i32) -> Answer
     ensures { result ≡ add_answer file.now (record { from = x; to = y; weight = w }) }
 {
-    let a = front(file);
-    if !accepted(a) {
-        return a;
-    }
+    front(file)?;
     let h = head(file);
     let added = Limit {
         from: x,
         to: y,
         weight: w,
     };
-    let own = limit_answer(h.points, h.limits, added);
-    if !accepted(own) {
-        return own;
-    }
+    limit_answer(h.points, h.limits, added)?;
     links(file, h.points, h.limits, h.links)
 }

@@ -6,7 +6,6 @@ ghost use Rattle.plan.specs.File.{fresh as File·fresh, limits_answer, links_ans
 
 use crate::faults::{limit_answer, link_answer};
 use crate::record::{limit_at, link_at};
-use answers::accepted;
 use rules::Answer;
 
 // The answer to the first m limits, of a plan of n points.
@@ -14,26 +13,18 @@ pub fn limits(file: &[u8], n: u32, m: u32) -> Answer
     requires { m ≤ version1.limits }
     ensures { result ≡ limits_answer version1 n 0 (records (limit_at file.now) 0 m) }
 {
-    let mut i = 0;
-    while i < m {
-        let a = limit_answer(n, i, limit_at(file, i));
-        if !accepted(a) {
-            return a;
-        }
-        i += 1;
+    for i in 0..m {
+        limit_answer(n, i, limit_at(file, i))?;
     }
-    Answer::Done
+    Ok(())
 }
 
 // Whether a point is the contingent point of none of the first i links. It looks back from the last of them.
 fn fresh(file: &[u8], m: u32, i: u32, con: u32) -> bool
     ensures { result ≡ File·fresh con (earlier (link_at file.now m) i) }
 {
-    let mut j = i;
-    while 0 < j {
-        j -= 1;
-        let other = link_at(file, m, j);
-        if other.con == con {
+    for j in (0..i).rev() {
+        if link_at(file, m, j).con == con {
             return false;
         }
     }
@@ -45,15 +36,10 @@ pub fn links(file: &[u8], n: u32, m: u32, k: u32) -> Answer
     requires { (m ≤ version1.limits) × (k ≤ version1.links) }
     ensures { result ≡ links_answer version1 n m 0 [] (records (link_at file.now m) 0 k) }
 {
-    let mut i = 0;
-    while i < k {
+    for i in 0..k {
         let link = link_at(file, m, i);
         let new = fresh(file, m, i, link.con);
-        let a = link_answer(n, m, i, link, new);
-        if !accepted(a) {
-            return a;
-        }
-        i += 1;
+        link_answer(n, m, i, link, new)?;
     }
-    Answer::Done
+    Ok(())
 }

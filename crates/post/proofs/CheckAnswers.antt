@@ -9,13 +9,11 @@ use lib.Dec.{eqb}
 use lib.ListN.{length}
 use lib.IntN.{ℤ}
 use Rattle.rules.specs.Plan.{version1}
-use Rattle.rules.specs.Answers.{code_of}
+use Rattle.rules.specs.Answers.{code_of, Answer, Done, ShortRoom, NotClosed}
 use Rattle.rules.specs.Cells.{table_of}
 use Rattle.rules.specs.Tables.{Closed}
 use Rattle.rules.specs.Calls as calls
 use Rattle.rules.specs.Calls.{Checked}
-use Rattle.rules.specs.declared.Answer.{Answer}
-use Rattle.rules.specs.declared.Answer.TheVariants.{Done, ShortRoom, NotClosed}
 use Rattle.plan.specs.declared.Header.{Header}
 use Rattle.plan.specs.Layout.{head_of, plan_of}
 use Rattle.plan.specs.File.{file_answer}

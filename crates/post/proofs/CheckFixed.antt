@@ -7,14 +7,12 @@ use native.Mathlib.Omega.{arith}
 use lib.IntN.{ℤ}
 use borrow.Author.Tests.{eq-eqb}
 use Rattle.rules.specs.Plan.{Plan, Ranges, version1}
-use Rattle.rules.specs.Answers.{code_of}
+use Rattle.rules.specs.Answers.{code_of, Answer, Done}
 use Rattle.rules.specs.Cells.{table_of}
 use Rattle.rules.specs.Walks.{Uncontrollable}
 use Rattle.rules.specs.Tables.{Tables, Closed}
 use Rattle.rules.specs.Calls as calls
 use Rattle.rules.specs.Calls.{Checked}
-use Rattle.rules.specs.declared.Answer.{Answer}
-use Rattle.rules.specs.declared.Answer.TheVariants.{Done}
 use Rattle.rules.proofs.Bound.{closed_controllable}
 use Rattle.rules.proofs.Points.{in_range_pointed}
 use Rattle.rules.proofs.OneAnswer.{checked_once}

@@ -10,9 +10,7 @@ use Rattle.rules.specs.Plan.{Link, Plan, version1}
 use Rattle.rules.specs.Cells.{table_of}
 use Rattle.rules.specs.Calls as calls
 use Rattle.rules.specs.Calls.{RoomForTables, Written, Judged, Timed, TimesOf}
-use Rattle.rules.specs.declared.Answer.{Answer}
-use Rattle.rules.specs.declared.Answer.TheVariants.{Done, ShortRoom, HasLinks}
-use Rattle.rules.specs.Answers.{code_of}
+use Rattle.rules.specs.Answers.{Answer, Done, ShortRoom, HasLinks, code_of}
 use Rattle.rules.proofs.Demands.{version1_coherent, demand2_of_plans}
 use Rattle.plan.specs.declared.Header.{Header}
 use Rattle.plan.specs.Layout.{head_of, plan_of}

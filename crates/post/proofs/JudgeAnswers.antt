@@ -9,11 +9,9 @@ use lib.Dec.{eqb}
 use lib.ListN.{length}
 use lib.IntN.{ℤ, pos}
 use Rattle.rules.specs.Plan.{version1}
-use Rattle.rules.specs.Answers.{code_of}
+use Rattle.rules.specs.Answers.{code_of, Answer, Done, ShortRoom, NotControllable}
 use Rattle.rules.specs.Calls as calls
 use Rattle.rules.specs.Calls.{Kept, Filled, RoomForTables, Written, Judged}
-use Rattle.rules.specs.declared.Answer.{Answer}
-use Rattle.rules.specs.declared.Answer.TheVariants.{Done, ShortRoom, NotControllable}
 use Rattle.plan.specs.declared.Header.{Header}
 use Rattle.plan.specs.Layout.{head_of, plan_of}
 use Rattle.plan.specs.File.{file_answer}

@@ -1,8 +1,7 @@
 -- An answer as C gets it: one 64-bit number, the code in the low 32 bits and the place in the high 32.
 -- Assumes nothing.
 use Rattle.std.specs.Prelude.{◌≡◌, List, ℕ, ◌+◌, ◌*◌, ◌^◌, ℤ}
-use Rattle.rules.specs.declared.Answer.{Answer}
-use Rattle.rules.specs.Answers.{code_of, place_of}
+use Rattle.rules.specs.Answers.{Answer, code_of, place_of}
 
 -- the number of an answer
 abbrev pub packed_of : Answer → ℕ

@@ -1,8 +1,7 @@
 -- Document 01, "Numbers returned": what comes before the work of every call that is lent two tables, codes 1 to 8 and then 9.
 -- Assumes nothing.
 use Rattle.std.specs.Prelude.{◌≡◌, ◌≢◌, ◌⊎◌, List, ℕ, ◌≤◌, ◌<◌}
-use Rattle.rules.specs.declared.Answer.{Answer}
-use Rattle.rules.specs.declared.Answer.TheVariants.{Done, ShortRoom}
+use Rattle.rules.specs.Answers.{Answer, Done, ShortRoom}
 use Rattle.rules.specs.Calls.{cells_of}
 use Rattle.plan.specs.Layout.{plan_of}
 use Rattle.plan.specs.File.{file_answer}

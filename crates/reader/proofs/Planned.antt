@@ -10,7 +10,7 @@ use lib.ListN.{length, get_or, get_or-eq_default}
 use lib.IntN.{pos}
 use denote.Ref.{Bor}
 use Rattle.rules.specs.Plan.{Limit, Link, version1, LimitInRange, LinkInRange}
-use Rattle.rules.specs.declared.Answer.TheVariants.{Done}
+use Rattle.rules.specs.Answers.{Done}
 use Rattle.fields.specs.Bytes.{word_at, signed_at, signed_of}
 use Rattle.plan.specs.Layout.{head_of, limit_offset, link_offset, limit_at, link_at, records, plan_of}
 use Rattle.plan.specs.File.{file_answer}

@@ -9,8 +9,7 @@ use lib.Dec.{eqb}
 use lib.ListN.{length}
 use lib.IntN.{ℤ, pos}
 use borrow.Author.Tests.{eqb-false}
-use Rattle.rules.specs.declared.Answer.{Answer}
-use Rattle.rules.specs.declared.Answer.TheVariants.{Done, ShortRoom, ReasonsListed}
+use Rattle.rules.specs.Answers.{Answer, Done, ShortRoom, ReasonsListed}
 use Rattle.rules.specs.Plan.{Plan, version1, InRange}
 use Rattle.rules.specs.Calls.{Kept, Filled}
 use Rattle.plan.specs.Layout.{plan_of, head_of}

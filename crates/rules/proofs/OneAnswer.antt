@@ -7,8 +7,7 @@ use Prim.Native.Nat.{ℕ, zero, ◌≤◌, ◌<◌}
 use native.Mathlib.Omega.{arith}
 use lib.ListN.{length}
 use lib.IntN.{ℤ, pos}
-use Rattle.rules.specs.declared.Answer.{Answer}
-use Rattle.rules.specs.declared.Answer.TheVariants.{Done}
+use Rattle.rules.specs.Answers.{Answer, Done}
 use Rattle.rules.specs.Plan.{Limit, Plan, Ranges, LimitInRange, InRange}
 use Rattle.rules.specs.Edges as edges
 use Rattle.rules.specs.Edges.{Derivable}

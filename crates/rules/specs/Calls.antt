@@ -2,8 +2,8 @@
 -- what the file's bytes answer (for Add: with Add's limit tested between the file's limits and links), p the plan they hold, the lists
 -- are the lent slices before and after. Assumes nothing.
 use Rattle.std.specs.Prelude.{◌≡◌, ◌≢◌, ◌⊎◌, List, [], ℕ, zero, ◌*◌, ◌≤◌, ◌<◌, length, get_or, ℤ, pos, neg_ℤ}
-use Rattle.rules.specs.declared.Answer.{Answer}
-use Rattle.rules.specs.declared.Answer.TheVariants.{Done, ShortRoom, HasLinks, NotControllable, NotClosed}
+use Rattle.rules.specs.Answers.{Answer}
+use Rattle.rules.specs.Answers.{Done, ShortRoom, HasLinks, NotControllable, NotClosed}
 use Rattle.rules.specs.Plan.{Limit, Plan, Ranges}
 use Rattle.rules.specs.Walks.{Uncontrollable}
 use Rattle.rules.specs.Cells.{Cell, num, Within, Table, table_of}

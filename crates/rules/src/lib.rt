@@ -1,13 +1,11 @@
 // The rule paper. This crate has no functions: specs/ holds the paper's definitions, proofs/ the theorems on them, and
-// here stand the two types that code and definitions share.
+// here stand the types that code and definitions share.
 #![tactic(auto)]
 
-// What a call answers: a case for each code of the paper's table "Numbers returned", with the place where the paper names one.
+// Why a call refuses: a case for each code of the paper's table "Numbers returned" but 0, with the place where the paper names one.
 // The paper's numbers are code_of and place_of of specs/Answers.antt.
-#[derive(Clone, Copy)]
-pub enum Answer {
-    // 0: done, or accepted
-    Done,
+#[derive(Clone, Copy, Debug, PartialEq, Eq)]
+pub enum Refusal {
     // 1: fewer than 24 bytes
     FewBytes,
     // 2: version not 1
@@ -36,8 +34,11 @@ pub enum Answer {
     NotClosed,
 }
 
+// What a call answers: `Ok` with 0, done or accepted; else why it refuses.
+pub type Answer = Result<(), Refusal>;
+
 // Which of two tables: row access is given "a choice, strict or open only".
-#[derive(Clone, Copy)]
+#[derive(Clone, Copy, Debug, PartialEq, Eq)]
 pub enum Side {
     Strict,
     Open,

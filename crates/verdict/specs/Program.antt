@@ -1,6 +1,6 @@
 -- What Judge answers to a file when it is lent two tables of 4,096 zeros, room for any plan. Assumes nothing.
 use Rattle.std.specs.Prelude.{List, ℕ, ℤ, pos, replicate}
-use Rattle.rules.specs.declared.Answer.{Answer}
+use Rattle.rules.specs.Answers.{Answer}
 use Rattle.rules.specs.Plan.{version1}
 use Rattle.rules.specs.Calls.{Judged}
 use Rattle.plan.specs.Layout.{plan_of}

@@ -3,7 +3,7 @@
 
 ghost use Rattle.std.specs.Prelude.{take, IfSome, OnOk};
 ghost use Rattle.std.specs.Io.KnownBytes.{Appends};
-ghost use Rattle.rules.specs.declared.Answer.{Answer};
+ghost use Rattle.rules.specs.Answers.{Answer};
 ghost use Rattle.rules.specs.Plan.{version1};
 ghost use Rattle.rules.specs.Calls.{Judged};
 ghost use Rattle.plan.specs.Layout.{plan_of};

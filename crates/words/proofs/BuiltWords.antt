@@ -11,8 +11,7 @@ use lib.Dec.{ltb}
 use lib.ListN.{length}
 use lib.IntN.{ℤ}
 use borrow.Author.Tests.{lt-ltb, le-ltb}
-use Rattle.rules.specs.declared.Answer.{Answer}
-use Rattle.rules.specs.declared.Answer.TheVariants.{Done, ShortRoom, NotControllable}
+use Rattle.rules.specs.Answers.{Answer, Done, ShortRoom, NotControllable}
 use Rattle.rules.specs.Plan.{version1}
 use Rattle.rules.specs.Cells.{Cell, mark, num, table_of}
 use Rattle.rules.specs.Calls.{Judged, Written}

@@ -7,9 +7,7 @@ use native.Mathlib.Omega.{arith}
 use lib.Dec.{eqb, leb}
 use lib.ListN.{length, set, length-set}
 use borrow.Author.Tests.{lt-leb, le-leb}
-use Rattle.rules.specs.declared.Answer.{Answer}
-use Rattle.rules.specs.declared.Answer.TheVariants.{Done, ShortRoom}
-use Rattle.rules.specs.Answers.{code_of}
+use Rattle.rules.specs.Answers.{Answer, Done, ShortRoom, code_of}
 use Rattle.answers.specs.Order.{◌then◌, unless}
 use Rattle.plan.proofs.TestsMade.{failed}
 use Rattle.plan.proofs.SoundFile.{is_accepted, not_accepted}

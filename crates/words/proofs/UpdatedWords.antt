@@ -7,8 +7,7 @@ use mathlib.Core.List.{List}
 use Prim.Native.Nat.{ℕ, ◌^◌, ◌<◌}
 use native.Mathlib.Omega.{arith}
 use lib.ListN.{length}
-use Rattle.rules.specs.declared.Answer.{Answer}
-use Rattle.rules.specs.declared.Answer.TheVariants.{Done}
+use Rattle.rules.specs.Answers.{Answer, Done}
 use Rattle.rules.proofs.Lists.{same_parts}
 use Rattle.words.specs.Sets.{word_bits, bit, word_of}
 use Rattle.words.specs.Calls.{asked_answer, point_word, taking, FirstWords, ReachAdded}

@@ -8,10 +8,8 @@ use lib.Dec.{eqb, leb, ltb}
 use lib.ListN.{length}
 use lib.Bits.{bit_and}
 use borrow.Author.Tests.{ltb-true, leb-true, lt-ltb, le-leb, lt-leb}
-use Rattle.rules.specs.declared.Answer.{Answer}
-use Rattle.rules.specs.declared.Answer.TheVariants.{Done, BadPoints, ShortRoom}
+use Rattle.rules.specs.Answers.{Answer, Done, BadPoints, ShortRoom, code_of}
 use Rattle.rules.specs.Plan.{version1}
-use Rattle.rules.specs.Answers.{code_of}
 use Rattle.answers.specs.Order.{◌then◌, unless}
 use Rattle.answers.proofs.CodeZero.{then_done, done_then, unless_done, done_unless}
 use Rattle.plan.proofs.TestsMade.{both, and}

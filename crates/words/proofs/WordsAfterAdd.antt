@@ -11,8 +11,7 @@ use lib.ListN.{length}
 use lib.IntN.{ℤ}
 use lib.Pow.{pow_mono}
 use borrow.Author.Tests.{lt-ltb, le-ltb}
-use Rattle.rules.specs.declared.Answer.{Answer}
-use Rattle.rules.specs.declared.Answer.TheVariants.{Done, ShortRoom, NotControllable, NotClosed}
+use Rattle.rules.specs.Answers.{Answer, Done, ShortRoom, NotControllable, NotClosed}
 use Rattle.rules.specs.Plan.{Limit, version1, LimitInRange}
 use Rattle.rules.specs.Cells.{Cell, mark, num, Table, table_of}
 use Rattle.rules.specs.Tables.{Closed}

@@ -9,9 +9,7 @@ use native.Mathlib.Nat.{eq-or-lt_of_le}
 use native.Mathlib.Omega.{arith}
 use native.Mathlib.Decide.{dec_le}
 use lib.Dec.{eqb}
-use Rattle.rules.specs.Answers.{code_of}
-use Rattle.rules.specs.declared.Answer.{Answer}
-use Rattle.rules.specs.declared.Answer.TheVariants.{Done}
+use Rattle.rules.specs.Answers.{code_of, Answer, Done}
 use Rattle.rules.proofs.Lists.{same_parts}
 use Rattle.answers.proofs.CodeZero.{code_zero}
 use Rattle.words.specs.Sets.{Set, word_bits, how_many, Lowest, Highest, Numbers, bit}

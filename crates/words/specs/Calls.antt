@@ -1,8 +1,7 @@
 -- Document 02, item 6: what the four calls on reach words answer and what they leave in each lent word, for all inputs. The lists are the lent slices before
 -- and after. Assumes nothing.
 use Rattle.std.specs.Prelude.{◌≡◌, ◌≢◌, Bool, cond, not, ◌&&◌, ◌||◌, List, ℕ, ◌*◌, ◌≤◌, ◌<◌, leb, ltb, length, get_or, ℤ}
-use Rattle.rules.specs.declared.Answer.{Answer}
-use Rattle.rules.specs.declared.Answer.TheVariants.{Done, BadPoints, ShortRoom}
+use Rattle.rules.specs.Answers.{Answer, Done, BadPoints, ShortRoom}
 use Rattle.rules.specs.Plan.{version1}
 use Rattle.rules.specs.Cells.{table_of}
 use Rattle.answers.specs.Order.{◌then◌, unless}

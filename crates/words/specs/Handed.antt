@@ -1,8 +1,7 @@
 -- Document 02, item 6, as C asks for it: the numbers of a point, and the points that two points both bound, into a lent slice. "short slices get 9; neither
 -- writes anything": the slice is written with 0 only. Assumes nothing.
 use Rattle.std.specs.Prelude.{◌≡◌, ◌≢◌, ◌&&◌, List, ℕ, zero, suc, leb, length}
-use Rattle.rules.specs.declared.Answer.{Answer}
-use Rattle.rules.specs.declared.Answer.TheVariants.{Done, ShortRoom}
+use Rattle.rules.specs.Answers.{Answer, Done, ShortRoom}
 use Rattle.answers.specs.Order.{◌then◌, unless}
 use Rattle.words.specs.Sets.{word_bits, Numbers, bit, word_of}
 use Rattle.words.specs.Calls.{asked_answer, point_word, FirstWords}

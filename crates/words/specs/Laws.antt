@@ -1,7 +1,6 @@
 -- Document 02, item 6: what is promised of the calls on reach words together, over their statements alone; and that two answers are equal. Assumes nothing.
 use Rattle.std.specs.Prelude.{◌≡◌, ◌↔◌, true, ◌&&◌, List, ℕ, ◌<◌, ltb, ℤ}
-use Rattle.rules.specs.declared.Answer.{Answer}
-use Rattle.rules.specs.declared.Answer.TheVariants.{Done}
+use Rattle.rules.specs.Answers.{Answer, Done}
 use Rattle.rules.specs.Plan.{Limit, Plan, version1}
 use Rattle.rules.specs.Edges.{Given}
 use Rattle.rules.specs.Walks.{Walk}

@@ -10,8 +10,7 @@ use lib.Seq.{take_at}
 use lib.IntN.{pos}
 use borrow.Author.Tests.{le-leb, eq-eqb}
 use Rattle.rules.specs.Plan.{Limit, Link, Plan, version1, InRange}
-use Rattle.rules.specs.declared.Answer.{Answer}
-use Rattle.rules.specs.declared.Answer.TheVariants.{Done, ShortRoom}
+use Rattle.rules.specs.Answers.{Answer, Done, ShortRoom}
 use Rattle.answers.specs.Order.{◌then◌, unless}
 use Rattle.answers.proofs.CodeZero.{then_done, done_then, done_unless}
 use Rattle.fields.specs.Bytes.{AllBytes}

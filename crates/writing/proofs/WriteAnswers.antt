@@ -9,9 +9,7 @@ use lib.Dec.{leb, eqb}
 use lib.ListN.{length, drop, length-append}
 use borrow.Author.Tests.{eqb-true, le-leb, lt-leb}
 use Rattle.rules.specs.Plan.{Limit, Link, version1}
-use Rattle.rules.specs.Answers.{code_of}
-use Rattle.rules.specs.declared.Answer.{Answer}
-use Rattle.rules.specs.declared.Answer.TheVariants.{Done, ShortRoom}
+use Rattle.rules.specs.Answers.{code_of, Answer, Done, ShortRoom}
 use Rattle.answers.specs.Order.{◌then◌, unless}
 use Rattle.answers.proofs.CodeZero.{then_done}
 use Rattle.plan.specs.Layout.{limit_offset, link_offset, records, head_fields, limit_fields, link_fields, plan_fields, plan_bytes}

@@ -9,9 +9,7 @@ use native.Mathlib.Omega.{arith}
 use lib.Dec.{leb, eqb}
 use lib.ListN.{length}
 use Rattle.rules.specs.Plan.{version1}
-use Rattle.rules.specs.Answers.{code_of}
-use Rattle.rules.specs.declared.Answer.{Answer}
-use Rattle.rules.specs.declared.Answer.TheVariants.{Done, ShortRoom}
+use Rattle.rules.specs.Answers.{code_of, Answer, Done, ShortRoom}
 use Rattle.answers.specs.Order.{unless}
 use Rattle.answers.proofs.CodeZero.{code_zero}
 use Rattle.plan.specs.File.{plan_answer}

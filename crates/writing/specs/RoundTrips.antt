@@ -2,8 +2,7 @@
 -- read gives the same bytes." Assumes nothing.
 use Rattle.std.specs.Prelude.{◌≡◌, ◌↔◌, true, List, ◌++◌, ℕ, ◌≤◌, leb, length, take, drop}
 use Rattle.rules.specs.Plan.{Plan, version1, InRange}
-use Rattle.rules.specs.declared.Answer.{Answer}
-use Rattle.rules.specs.declared.Answer.TheVariants.{Done, ShortRoom}
+use Rattle.rules.specs.Answers.{Answer, Done, ShortRoom}
 use Rattle.answers.specs.Order.{◌then◌, unless}
 use Rattle.fields.specs.Bytes.{AllBytes}
 use Rattle.plan.specs.Layout.{link_offset, plan_of, plan_bytes, FitsFields}

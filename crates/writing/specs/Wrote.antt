@@ -2,8 +2,7 @@
 -- Assumes nothing.
 use Rattle.std.specs.Prelude.{◌≡◌, ◌≢◌, List, ◌++◌, ℕ, leb, length, drop}
 use Rattle.rules.specs.Plan.{version1}
-use Rattle.rules.specs.declared.Answer.{Answer}
-use Rattle.rules.specs.declared.Answer.TheVariants.{Done, ShortRoom}
+use Rattle.rules.specs.Answers.{Answer, Done, ShortRoom}
 use Rattle.answers.specs.Order.{◌then◌, unless}
 use Rattle.plan.specs.Layout.{plan_bytes}
 use Rattle.plan.specs.File.{plan_answer}

@@ -4,7 +4,7 @@ use Rattle.std.specs.Prelude.{⊤, None, Some, Ok, Err, IfSome, OnOk}
 use Rattle.std.specs.declared.option.Option.{Option}
 use Rattle.std.specs.Io.KnownBytes.{Appends}
 use Rattle.std.specs.declared.result.Result.{Result}
-use Rattle.rules.specs.declared.Answer.{Answer}
+use Rattle.rules.specs.Answers.{Answer}
 use Rattle.console.specs.Verdict.{verdict_of}
 use Rattle.verdict.specs.Program.{IsJudged}
 use Rattle.verdict.proofs.run.Goals as goal

@@ -1,0 +1,8 @@
+-- The answer to all limits is the answer to those from index i on. Assumes nothing.
+use Rattle.plan.proofs.Common.{◌≡◌, ◌-◌, version1, limit_at, records}
+use Rattle.plan.specs.File.{limits_answer}
+use Rattle.plan.proofs.scan.limits.Given as goal
+
+abbrev pub invariant-loop-i : goal.invariant-loop-i
+invariant-loop-i l =
+    limits_answer version1 l.n 0 (records (limit_at l.file) 0 l.m) ≡ limits_answer version1 l.n l.i (records (limit_at l.file) l.i (l.m - l.i))
