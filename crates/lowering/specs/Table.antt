@@ -1,10 +1,8 @@
 -- What the functions of this crate are lent: a sound file with its counts, and lists with room for a table. Assumes nothing.
-use Rattle.std.specs.Prelude.{◌≡◌, List, ℕ, zero, ◌*◌, ◌≤◌, ◌<◌, length, get_or, ℤ, pos}
-use Rattle.rules.specs.Answers.{Done}
+use Rattle.std.specs.Prelude.{List, ℕ, zero, ◌*◌, ◌≤◌, ◌<◌, length, get_or, ℤ, pos}
 use Rattle.rules.specs.Plan.{Ranges}
 use Rattle.rules.specs.Cells.{cell_of, table_of}
-use Rattle.plan.specs.Layout.{head_of}
-use Rattle.plan.specs.File.{file_answer}
+pub use Rattle.plan.specs.Ready.{Ready}
 use Rattle.cell.specs.Steps.{Stored}
 
 -- a list with room for a table whose cells a sweep stores
@@ -16,10 +14,3 @@ pub record Sound (r : Ranges) (n : ℕ) (t : List ℤ) : Type 0 where
 pub record Held (r : Ranges) (m : ℕ) (t : List ℤ) : Type 0 where
   pub room : m ≤ length t
   pub stored : (i : ℕ) → i < m → Stored r.reach (cell_of r.mark (get_or t i (pos zero)))
-
--- the bytes are a plan file of n points, m limits and k links
-pub record Ready (s : List ℕ) (n m k : ℕ) : Type 0 where
-  pub sound : file_answer s ≡ Done
-  pub points : n ≡ (head_of s).points
-  pub limits : m ≡ (head_of s).limits
-  pub links : k ≡ (head_of s).links

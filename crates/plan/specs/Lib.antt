@@ -3,3 +3,4 @@ pub mod Layout
 pub mod Values
 pub mod File
 pub mod Faults
+pub mod Ready

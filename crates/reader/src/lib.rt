@@ -1,12 +1,18 @@
 // The reader struct: a plan file that is lent, held with its counts, giving limit i and link i where they lie.
 // Each function is thin: `counted` makes the reader, `limit` and `link` take it apart and call the function on the slice and the numbers. The last two
-// have plain parameters.
+// have plain parameters. Whatever works on a plan is handed a `SoundPlan` (sound.rt), which only a sound file has.
 #![tactic(auto)]
+
+mod reading;
+mod sound;
 
 ghost use Rattle.std.specs.Prelude.{◌≡◌};
 ghost use Rattle.plan.specs.Layout.{limit_at, link_at};
 ghost use Rattle.plan.specs.Values.{limit_of, link_of};
 ghost use Rattle.reader.specs.Reads.{holding, ReaderOf};
+
+pub use reading::{known, read};
+pub use sound::SoundPlan;
 
 // A lent plan file with its numbers of points, limits and links.
 #[derive(Clone, Copy)]
