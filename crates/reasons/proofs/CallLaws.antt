@@ -22,6 +22,9 @@ use Rattle.chain.specs.Follows.{Follows, start, limit, longest, shortest, lower_
 use Rattle.chain.specs.Call.{Lists, room_of, Reasoned}
 use Rattle.chain.proofs.EveryLineFollows.{reasons_follow}
 use Rattle.chain.proofs.OneList.{one}
+use Rattle.rules.specs.declared.Refusal.{Refusal}
+use Rattle.std.specs.Prelude.{Err}
+use Rattle.answers.proofs.CodeZero.{not_done}
 use Rattle.reasons.specs.declared.Run.{Run}
 use Rattle.reasons.specs.Notes.{laid}
 use Rattle.reasons.specs.Working.{Worked}
