@@ -5,23 +5,26 @@ ghost use Rattle.std.specs.Prelude.{◌≡◌, ◌+◌, ◌≤◌, length};
 ghost use Rattle.std.proofs.lemmas.List.Edits.{sets};
 ghost use Rattle.fields.specs.Bytes.{word_at, signed_at, word_bytes, bits_of};
 
-// The unsigned field at a position. Where the file has all of it, no byte is looked up by itself.
-// That quick way asks for the field by its two ends, since the compiler makes one comparison with the file's length of it: beside it
-// stands only the test that the end does not wrap, which it leaves out where the position is made of 32-bit numbers. A `first_chunk` of
-// all that follows the position would take two comparisons.
+// The unsigned field at a position; a byte past the file's end counts as 0.
+// A field that lies whole in the file is asked for by its two ends, of which the compiler makes one comparison with the file's length;
+// the test that the end does not wrap it leaves out where the position is made of 32-bit numbers. The match on what follows the position
+// could read a whole field too, but would compare twice.
 #[tactic(auto, unfolding(crate::specs::Bytes::word_at))]
 pub fn unsigned_at(file: &[u8], at: usize) -> u32
     ensures { result ≡ word_at file.now at }
 {
-    let field = at
+    let whole = at
         .checked_add(4)
         .and_then(|end| file.get(at..end)?.first_chunk::<4>());
-    if let Some(bytes) = field {
-        return u32::from_le_bytes(*bytes);
+    if let Some(field) = whole {
+        return u32::from_le_bytes(*field);
     }
-    let rest = file.get(at..).unwrap_or(&[]);
-    let byte = |i: usize| rest.get(i).copied().unwrap_or(0);
-    u32::from_le_bytes([byte(0), byte(1), byte(2), byte(3)])
+    match file.get(at..).unwrap_or(&[]) {
+        &[a, b, c, ..] => u32::from_le_bytes([a, b, c, 0]),
+        &[a, b] => u32::from_le_bytes([a, b, 0, 0]),
+        &[a] => u32::from_le_bytes([a, 0, 0, 0]),
+        [] => 0,
+    }
 }
 
 // The signed field at a position.
