@@ -112,8 +112,8 @@ room_read t e = e
 -- a file that is refused, and a work room that is too short
 pub answer_file : (s : List ℕ) {lists : Lists} {work : List ℤ} {a : Answer} {r : Refusal} → a ≡ file_answer s → a ≡ Err r
     → Reasoned (file_answer s) (plan_of s) lists work (Err r) lists work
-answer_file s e q =
-    subst (λ (x : Answer). Reasoned (file_answer s) (plan_of s) _ _ x _ _) (sym e ∙ q) (Reasoned.bad_file (λ d. not_done (sym q ∙ e ∙ d)))
+answer_file s {lists} {work} e q =
+    subst (λ (x : Answer). Reasoned (file_answer s) (plan_of s) lists work x lists work) (sym e ∙ q) (Reasoned.bad_file (λ d. not_done (sym q ∙ e ∙ d)))
 
 pub ready_made : {s : List ℕ} {h : Header} → h ≡ head_of s → file_answer s ≡ Done → Ready s h.points h.limits h.links
 ready_made e d = record { sound = d; points = ap (λ (q : Header). q.points) e; limits = ap (λ (q : Header). q.limits) e; links = ap (λ (q : Header). q.links) e }
