@@ -1,14 +1,8 @@
 // Runs Add on case f of the paper and on closed tables that came from nowhere, with cells at both ends of the closed range, and prints a line of code and place for each.
 #![tactic(auto)]
 
-use answers::{code, place};
-use rules::Answer;
+use console::Numbers;
 use std::io;
-
-// Prints code and place of an answer.
-fn print(rt: &impl Print, a: Answer) -> io::Result<()> {
-    println!(rt; "{} {}", code(a), place(a))
-}
 
 // Adds a limit to two tables, with a scratch that is not clean.
 fn run(
@@ -21,7 +15,8 @@ fn run(
     open: &mut [i32],
 ) -> io::Result<()> {
     let mut scratch = [7i64; 18];
-    print(rt, adding::add(file, x, y, w, strict, open, &mut scratch))
+    let a = adding::add(file, x, y, w, strict, open, &mut scratch);
+    println!(rt; "{}", Numbers(a))
 }
 
 // Case f: the tables of e. 0>1 5 is taken, 0>1 4 and 1>0 -3 are refused; then a weight out of range, and a table that is too short.

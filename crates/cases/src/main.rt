@@ -5,15 +5,15 @@
 // limits, each as a file has it; the repository's tools/paper_cases.py makes the input and what is to be printed.
 #![tactic(auto)]
 
-ghost use Rattle.std.specs.Prelude.{◌≡◌, ◌≤◌, ◌<◌, nat_abs, length, IfOk};
+ghost use Rattle.std.specs.Prelude.{◌≤◌, length};
+ghost use Rattle.std.specs.Iterator.{at_most};
 ghost use Rattle.cases.specs.Case.{AllHold};
 ghost use Rattle.cases.specs.Paper.{paper};
 
-use answers::{accepted, code, place};
-use console::read_full;
+use console::{Numbers, read_full};
 use fields::{signed_at, unsigned_at};
 use post::Side;
-use rules::Answer;
+use std::fmt;
 use std::io;
 
 // What the documents say of the plans that they work through holds of the definitions that the calls are held to.
@@ -21,62 +21,48 @@ fn worked_plans_hold()
     ensures { AllHold paper }
 {}
 
-// Prints a word and the code and place of an answer, on a line.
-fn print(rt: &impl Print, word: &str, a: Answer) -> io::Result<()> {
-    println!(rt; "{word} {} {}", code(a), place(a))
+// A cell or a time as it is printed: a number, or the mark by its name.
+struct Shown(i32);
+
+impl fmt::Display for Shown {
+    fn fmt<W: fmt::Write>(&self, f: &mut fmt::Formatter<W>) -> fmt::Result {
+        match self.0 {
+            i32::MAX => write!(f, "mark"),
+            v => write!(f, "{v}"),
+        }
+    }
 }
 
-// How far a number lies from zero.
-fn size(v: i32) -> u64
-    ensures { result ≡ nat_abs v }
-{
-    if v < 0 {
-        return ((-1 - v) as u64) + 1;
-    }
-    v as u64
-}
+// Cells as they are printed, each behind a space.
+struct Row<'a>(&'a [i32]);
 
-// Prints a cell or a time behind a space: a number, or the mark by its name.
-fn print_cell(rt: &impl Print, v: i32) -> io::Result<()> {
-    if v == 2_147_483_647 {
-        return print!(rt; " mark");
+impl fmt::Display for Row<'_> {
+    fn fmt<W: fmt::Write>(&self, f: &mut fmt::Formatter<W>) -> fmt::Result {
+        for cell in self.0 {
+            write!(f, " {}", Shown(*cell))?;
+        }
+        Ok(())
     }
-    let sign = if v < 0 { "-" } else { "" };
-    print!(rt; " {sign}{}", size(v))
-}
-
-// Prints cells, each behind a space.
-fn print_row(rt: &impl Print, cells: &[i32]) -> io::Result<()> {
-    for cell in cells {
-        print_cell(rt, *cell)?;
-    }
-    Ok(())
 }
 
 // Prints a word and the n rows of a table as row access hands them back, with a semicolon behind each, on a line.
-fn print_table<'a>(
+fn print_table(
     rt: &impl Print,
     word: &str,
-    strict: &'a [i32],
-    open: &'a [i32],
+    strict: &[i32],
+    open: &[i32],
     n: usize,
     which: Side,
 ) -> io::Result<()> {
     print!(rt; "{word}")?;
     for x in 0..n {
-        print_row(rt, post::row(strict, open, n, x, which))?;
-        print!(rt; ";")?;
+        print!(rt; "{};", Row(post::row(strict, open, n, x, which)))?;
     }
     println!(rt)
 }
 
 // Prints both tables, of n points.
-fn print_tables<'a>(
-    rt: &impl Print,
-    strict: &'a [i32],
-    open: &'a [i32],
-    n: usize,
-) -> io::Result<()> {
+fn print_tables(rt: &impl Print, strict: &[i32], open: &[i32], n: usize) -> io::Result<()> {
     print_table(rt, "strict", strict, open, n, Side::Strict)?;
     print_table(rt, "open", strict, open, n, Side::Open)
 }
@@ -86,61 +72,22 @@ fn points(file: &[u8]) -> usize
     ensures { result ≤ 64 }
 {
     let n = unsigned_at(file, 4) as usize;
-    if 64 < n {
-        return 0;
-    }
-    n
-}
-
-// How many cells from the first one on hold a number.
-fn same(cells: &[i64], v: i64) -> usize
-    ensures { result ≤ length cells.now }
-{
-    for (i, cell) in cells.iter().enumerate() {
-        if *cell != v {
-            return i;
-        }
-    }
-    cells.len()
+    if n <= 64 { n } else { 0 }
 }
 
 // Prints of a scratch that held 7 in every cell how many cells from the first one on are 0 now, and how many behind those still hold 7.
 fn print_scratch(rt: &impl Print, scratch: &[i64]) -> io::Result<()> {
-    let zeros = same(scratch, 0);
-    let kept = same(&scratch[zeros..], 7);
+    let zeros = scratch.iter().take_while(|cell| **cell == 0).count();
+    let kept = scratch
+        .iter()
+        .skip_while(|cell| **cell == 0)
+        .take_while(|cell| **cell == 7)
+        .count();
     println!(rt; "scratch {zeros} {kept}")
 }
 
-// Prints the limit X>Y w, on a line.
-fn print_limit(rt: &impl Print, x: u32, y: u32, w: i32) -> io::Result<()> {
-    print!(rt; "limit {x}>{y}")?;
-    print_cell(rt, w)?;
-    println!(rt)
-}
-
-// Add of a limit, with a scratch that is not clean.
+// Add of limits that lie one behind the other, in that order, each with a scratch that is not clean.
 fn added(
-    rt: &impl Print,
-    file: &[u8],
-    x: u32,
-    y: u32,
-    w: i32,
-    strict: &mut [i32],
-    open: &mut [i32],
-) -> io::Result<()> {
-    let mut scratch = [7i64; 8192];
-    print_limit(rt, x, y, w)?;
-    print(
-        rt,
-        "add",
-        post::add(file, x, y, w, strict, open, &mut scratch),
-    )?;
-    print_tables(rt, strict, open, points(file))?;
-    print_scratch(rt, &scratch)
-}
-
-// Add of limits that lie one behind the other, in that order.
-fn added_all(
     rt: &impl Print,
     file: &[u8],
     limits: &[u8],
@@ -148,15 +95,15 @@ fn added_all(
     open: &mut [i32],
 ) -> io::Result<()> {
     for limit in limits.chunks_exact(12) {
-        added(
-            rt,
-            file,
-            unsigned_at(limit, 0),
-            unsigned_at(limit, 4),
-            signed_at(limit, 8),
-            strict,
-            open,
-        )?;
+        let x = unsigned_at(limit, 0);
+        let y = unsigned_at(limit, 4);
+        let w = signed_at(limit, 8);
+        println!(rt; "limit {x}>{y} {}", Shown(w))?;
+        let mut scratch = [7i64; 8192];
+        let a = post::add(file, x, y, w, strict, open, &mut scratch);
+        println!(rt; "add {}", Numbers(a))?;
+        print_tables(rt, strict, open, points(file))?;
+        print_scratch(rt, &scratch)?;
     }
     Ok(())
 }
@@ -166,14 +113,14 @@ fn added_all(
 fn judged(rt: &impl Print, file: &[u8], limits: &[u8]) -> io::Result<()> {
     let mut strict = [0i32; 4096];
     let mut open = [0i32; 4096];
-    print(rt, "sound", post::sound(file))?;
+    println!(rt; "sound {}", Numbers(post::sound(file)))?;
     let a = post::judge(file, &mut strict, &mut open);
-    print(rt, "judge", a)?;
-    if accepted(a) {
+    println!(rt; "judge {}", Numbers(a))?;
+    if a.is_ok() {
         print_tables(rt, &strict, &open, points(file))?;
     }
-    print(rt, "check", post::check(file, &strict, &open))?;
-    added_all(rt, file, limits, &mut strict, &mut open)
+    println!(rt; "check {}", Numbers(post::check(file, &strict, &open)))?;
+    added(rt, file, limits, &mut strict, &mut open)
 }
 
 // Earliest of a file.
@@ -182,48 +129,46 @@ fn timed(rt: &impl Print, file: &[u8]) -> io::Result<()> {
     let mut open = [0i32; 4096];
     let mut times = [0i32; 64];
     let a = post::earliest(file, &mut strict, &mut open, &mut times);
-    print(rt, "earliest", a)?;
-    if accepted(a) {
-        let n = points(file);
-        print!(rt; "times")?;
-        print_row(rt, &times[..n])?;
-        println!(rt)?;
+    println!(rt; "earliest {}", Numbers(a))?;
+    if a.is_ok() {
+        println!(rt; "times{}", Row(&times[..points(file)]))?;
     }
     Ok(())
 }
 
-// Prints the lines of the entry at a position, and answers where the next one begins. What does not fit ends the input.
-fn next(rt: &impl Print, all: &[u8], at: usize) -> io::Result<usize>
-    requires { at < length all.now }
-    ensures { IfOk result (λ after. (at < after) × (after ≤ length all.now)) }
-{
-    let size = all.len();
-    if size - at < 12 {
-        return Ok(size);
+// A plan's name, its file, and the limits to add to it.
+struct Entry<'a> {
+    name: &'a [u8],
+    file: &'a [u8],
+    limits: &'a [u8],
+}
+
+// The entries of an input, one behind the other; what does not fit ends it.
+#[derive(Drop)]
+struct Entries<'a>(&'a [u8]);
+
+impl<'a> Iterator for Entries<'a> {
+    type Item = Entry<'a>;
+
+    ghost remaining = { λ s. at_most (length s.0.now) };
+
+    fn next(&mut self) -> Option<Entry<'a>> {
+        let (head, behind) = self.0.split_at_checked(12)?;
+        let (name, behind) = behind.split_at_checked(unsigned_at(head, 0) as usize)?;
+        let (file, behind) = behind.split_at_checked(unsigned_at(head, 4) as usize)?;
+        let (limits, rest) = behind.split_at_checked(12 * (unsigned_at(head, 8) as usize))?;
+        self.0 = rest;
+        Some(Entry { name, file, limits })
     }
-    let start = at + 12;
-    let word = unsigned_at(all, at) as usize;
-    let bytes = unsigned_at(all, at + 4) as usize;
-    let more = 12 * (unsigned_at(all, at + 8) as usize);
-    if size - start < word + bytes + more {
-        return Ok(size);
-    }
-    let middle = start + word;
-    let last = middle + bytes;
-    let end = last + more;
-    rt.write_all(&all[start..middle])?;
-    println!(rt)?;
-    let file = &all[middle..last];
-    judged(rt, file, &all[last..end])?;
-    timed(rt, file)?;
-    Ok(end)
 }
 
 // Prints the lines of each entry.
 fn report(rt: &impl Print, all: &[u8]) -> io::Result<()> {
-    let mut at = 0;
-    while at < all.len() {
-        at = next(rt, all, at)?;
+    for Entry { name, file, limits } in Entries(all) {
+        rt.write_all(name)?;
+        println!(rt)?;
+        judged(rt, file, limits)?;
+        timed(rt, file)?;
     }
     Ok(())
 }

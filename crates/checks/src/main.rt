@@ -3,83 +3,65 @@
 // tools/tried_tables.py makes the input and what is to be printed.
 #![tactic(auto)]
 
-ghost use Rattle.std.specs.Prelude.{◌+◌, ◌*◌, ◌≤◌, ◌<◌, length, IfOk};
+ghost use Rattle.std.specs.Prelude.{◌≤◌, length};
+ghost use Rattle.std.specs.Iterator.{at_most};
 
-use answers::{code, place};
-use console::read_full;
+use console::{Numbers, read_full};
 use fields::{signed_at, unsigned_at};
-use rules::Answer;
 use std::io;
 
-// Prints code and place of an answer, and what ends them.
-fn print(rt: &impl Print, a: Answer, end: &str) -> io::Result<()> {
-    print!(rt; "{} {}{end}", code(a), place(a))
+// A file, and the bytes of the cells of two tables, of no more than 4,096 cells each.
+struct Entry<'a> {
+    file: &'a [u8],
+    strict: &'a [u8],
+    open: &'a [u8],
+    ghost strict_fits: { length strict.now ≤ 16384 },
+    ghost open_fits: { length «open».now ≤ 16384 },
 }
 
-// Puts the cells at a position into a table.
-fn take(all: &[u8], at: usize, count: usize, t: &mut [i32])
-    requires { (at + 4 * count ≤ length all.now) × (count ≤ length t.old) }
-{
-    for i in 0..count {
-        t[i] = signed_at(all, at + 4 * i);
+// The entries of an input, one behind the other; what does not fit ends it.
+#[derive(Drop)]
+struct Entries<'a>(&'a [u8]);
+
+impl<'a> Iterator for Entries<'a> {
+    type Item = Entry<'a>;
+
+    ghost remaining = { λ s. at_most (length s.0.now) };
+
+    fn next(&mut self) -> Option<Entry<'a>> {
+        let (head, behind) = self.0.split_at_checked(12)?;
+        let first = unsigned_at(head, 4) as usize;
+        let second = unsigned_at(head, 8) as usize;
+        if 4096 < first || 4096 < second {
+            return None;
+        }
+        let (file, behind) = behind.split_at_checked(unsigned_at(head, 0) as usize)?;
+        let (strict, behind) = behind.split_at_checked(4 * first)?;
+        let (open, rest) = behind.split_at_checked(4 * second)?;
+        self.0 = rest;
+        Some(Entry { file, strict, open })
     }
 }
 
-// Prints the line of an entry: its file, and its tables of so many cells, where they begin.
-fn line(
-    rt: &impl Print,
-    all: &[u8],
-    file: &[u8],
-    at: usize,
-    first: usize,
-    second: usize,
-) -> io::Result<()>
-    requires { (at + 4 * first + 4 * second ≤ length all.now) × (first ≤ 4096) × (second ≤ 4096) }
-{
-    let mut strict = [0i32; 4096];
-    let mut open = [0i32; 4096];
-    take(all, at, first, &mut strict);
-    take(all, at + 4 * first, second, &mut open);
-    print(rt, post::sound(file), " ")?;
-    print(
-        rt,
-        post::check(file, &strict[..first], &open[..second]),
-        "\n",
-    )
-}
-
-// Prints the line of the entry at a position, and answers where the next one begins. What does not fit ends the input.
-fn next(rt: &impl Print, all: &[u8], at: usize) -> io::Result<usize>
-    requires { at < length all.now }
-    ensures { IfOk result (λ after. (at < after) × (after ≤ length all.now)) }
-{
-    let size = all.len();
-    if size - at < 12 {
-        return Ok(size);
+// Puts cells into the front of a table.
+fn take(cells: &[u8], t: &mut [i32]) {
+    for (cell, bytes) in t.iter_mut().zip(cells.chunks_exact(4)) {
+        *cell = signed_at(bytes, 0);
     }
-    let start = at + 12;
-    let bytes = unsigned_at(all, at) as usize;
-    let first = unsigned_at(all, at + 4) as usize;
-    let second = unsigned_at(all, at + 8) as usize;
-    if 4096 < first {
-        return Ok(size);
-    }
-    if 4096 < second {
-        return Ok(size);
-    }
-    if size - start < bytes + 4 * first + 4 * second {
-        return Ok(size);
-    }
-    let end = start + bytes;
-    line(rt, all, &all[start..end], end, first, second)?;
-    Ok(end + 4 * first + 4 * second)
 }
 
 // Prints a line for each entry.
 fn report(rt: &impl Print, all: &[u8]) -> io::Result<()> {
-    let mut at = 0;
-    while at < all.len() {
-        at = next(rt, all, at)?;
+    for entry in Entries(all) {
+        let mut strict = [0i32; 4096];
+        let mut open = [0i32; 4096];
+        take(entry.strict, &mut strict);
+        take(entry.open, &mut open);
+        let first = &strict[..entry.strict.len() / 4];
+        let second = &open[..entry.open.len() / 4];
+        let sound = Numbers(post::sound(entry.file));
+        let checked = Numbers(post::check(entry.file, first, second));
+        println!(rt; "{sound} {checked}")?;
     }
     Ok(())
 }

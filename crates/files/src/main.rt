@@ -3,54 +3,49 @@
 // the repository's tools/damaged_files.py makes the input and what is to be printed.
 #![tactic(auto)]
 
-ghost use Rattle.std.specs.Prelude.{◌≤◌, ◌<◌, length, IfOk};
+ghost use Rattle.std.specs.Prelude.{length};
+ghost use Rattle.std.specs.Iterator.{at_most};
 
-use answers::{code, place};
-use console::read_full;
+use console::{Numbers, read_full};
 use fields::{signed_at, unsigned_at};
-use rules::Answer;
 use std::io;
 
-// Prints code and place of an answer, and what ends them.
-fn print(rt: &impl Print, a: Answer, end: &str) -> io::Result<()> {
-    print!(rt; "{} {}{end}", code(a), place(a))
+// A file, and the limit x>y w that is handed to Add.
+struct Entry<'a> {
+    file: &'a [u8],
+    x: u32,
+    y: u32,
+    w: i32,
 }
 
-// Prints the line of the file at a position, and answers where the next one begins. What does not fit ends the input.
-fn next(rt: &impl Print, all: &[u8], at: usize) -> io::Result<usize>
-    requires { at < length all.now }
-    ensures { IfOk result (λ after. (at < after) × (after ≤ length all.now)) }
-{
-    let size = all.len();
-    if size - at < 16 {
-        return Ok(size);
-    }
-    let start = at + 16;
-    let bytes = unsigned_at(all, at) as usize;
-    if size - start < bytes {
-        return Ok(size);
-    }
-    let end = start + bytes;
-    let file = &all[start..end];
-    print(rt, plan::sound(file), " ")?;
-    print(
-        rt,
-        plan::sound_with(
+// The entries of an input, one behind the other; what does not fit ends it.
+#[derive(Drop)]
+struct Entries<'a>(&'a [u8]);
+
+impl<'a> Iterator for Entries<'a> {
+    type Item = Entry<'a>;
+
+    ghost remaining = { λ s. at_most (length s.0.now) };
+
+    fn next(&mut self) -> Option<Entry<'a>> {
+        let (head, behind) = self.0.split_at_checked(16)?;
+        let (file, rest) = behind.split_at_checked(unsigned_at(head, 0) as usize)?;
+        self.0 = rest;
+        Some(Entry {
             file,
-            unsigned_at(all, at + 4),
-            unsigned_at(all, at + 8),
-            signed_at(all, at + 12),
-        ),
-        "\n",
-    )?;
-    Ok(end)
+            x: unsigned_at(head, 4),
+            y: unsigned_at(head, 8),
+            w: signed_at(head, 12),
+        })
+    }
 }
 
 // Prints a line for each file.
 fn report(rt: &impl Print, all: &[u8]) -> io::Result<()> {
-    let mut at = 0;
-    while at < all.len() {
-        at = next(rt, all, at)?;
+    for Entry { file, x, y, w } in Entries(all) {
+        let alone = Numbers(plan::sound(file));
+        let added = Numbers(plan::sound_with(file, x, y, w));
+        println!(rt; "{alone} {added}")?;
     }
     Ok(())
 }

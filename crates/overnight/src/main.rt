@@ -4,17 +4,42 @@
 // those three; the repository's tools/changed_files.py makes the input and what is to be printed.
 #![tactic(auto)]
 
-ghost use Rattle.std.specs.Prelude.{◌≤◌, ◌<◌, length, IfOk};
+ghost use Rattle.std.specs.Prelude.{◌≤◌, length};
+ghost use Rattle.std.specs.Iterator.{at_most};
 
-use answers::{code, place};
-use console::read_full;
+use console::{Numbers, read_full};
 use fields::unsigned_at;
-use rules::Answer;
 use std::io;
 
-// Prints a word, and code and place of an answer behind it.
-fn print(rt: &impl Print, word: &str, a: Answer) -> io::Result<()> {
-    print!(rt; "{word}{} {}", code(a), place(a))
+// A night's name, the file as it is stored, and what flash holds at night. Flash has room for more than the largest file, 12,824 bytes.
+struct Entry<'a> {
+    name: &'a [u8],
+    stored: &'a [u8],
+    held: &'a [u8],
+    ghost stored_fits: { length stored.now ≤ 16384 },
+    ghost held_fits: { length held.now ≤ 16384 },
+}
+
+// The entries of an input, one behind the other; what does not fit ends it.
+#[derive(Drop)]
+struct Entries<'a>(&'a [u8]);
+
+impl<'a> Iterator for Entries<'a> {
+    type Item = Entry<'a>;
+
+    ghost remaining = { λ s. at_most (length s.0.now) };
+
+    fn next(&mut self) -> Option<Entry<'a>> {
+        let (head, behind) = self.0.split_at_checked(12)?;
+        let (name, behind) = behind.split_at_checked(unsigned_at(head, 0) as usize)?;
+        let (stored, behind) = behind.split_at_checked(unsigned_at(head, 4) as usize)?;
+        let (held, rest) = behind.split_at_checked(unsigned_at(head, 8) as usize)?;
+        if 16384 < stored.len() || 16384 < held.len() {
+            return None;
+        }
+        self.0 = rest;
+        Some(Entry { name, stored, held })
+    }
 }
 
 // Puts bytes where the flash begins, over what is there. What lies behind them stays.
@@ -27,53 +52,35 @@ fn store(bytes: &[u8], flash: &mut [u8])
 // How many cells a table of a file's points has; 0 where the file names more points than there may be.
 fn room(file: &[u8]) -> usize {
     let n = unsigned_at(file, 4) as usize;
-    if 64 < n {
-        return 0;
-    }
-    n * n
-}
-
-// How many cells from the first one on hold a number.
-fn same(cells: &[i32], v: i32) -> usize
-    ensures { result ≤ length cells.now }
-{
-    for (i, cell) in cells.iter().enumerate() {
-        if *cell != v {
-            return i;
-        }
-    }
-    cells.len()
+    if n <= 64 { n * n } else { 0 }
 }
 
 // Whether every cell holds 7 still.
 fn stays(cells: &[i32]) -> bool {
-    same(cells, 7) == cells.len()
+    cells.iter().all(|cell| *cell == 7)
 }
 
 // Whether the first so many cells hold the mark, and every other one 7 still.
 fn marked(cells: &[i32], count: usize) -> bool {
-    let marks = same(cells, 2_147_483_647);
-    if marks != count {
-        return false;
+    match cells.split_at_checked(count) {
+        Some((front, behind)) => front.iter().all(|cell| *cell == i32::MAX) && stays(behind),
+        None => false,
     }
-    stays(&cells[marks..])
 }
 
-// Prints what became of the tables of a plan with so many cells in each. The cells themselves are looked at, and no code.
-fn print_tables(rt: &impl Print, strict: &[i32], open: &[i32], count: usize) -> io::Result<()> {
-    print!(rt; ", tables ")?;
-    if stays(strict) & stays(open) {
-        return println!(rt; "stay");
+// What became of the tables of a plan with so many cells in each. The cells themselves are looked at, and no code.
+fn became(strict: &[i32], open: &[i32], count: usize) -> &'static str {
+    if stays(strict) && stays(open) {
+        "stay"
+    } else if marked(strict, count) && marked(open, count) {
+        "marked"
+    } else {
+        "filled"
     }
-    if marked(strict, count) & marked(open, count) {
-        return println!(rt; "marked");
-    }
-    println!(rt; "filled")
 }
 
 // Prints what the two calls answer: the first of the file as it is stored, the second, whatever the first one said, of what the same flash holds
-// at night. The flash has room for more than the largest file, 12,824 bytes; where less is held than was stored, the old bytes still lie
-// behind it, and Judge is not lent them.
+// at night. Where less is held than was stored, the old bytes still lie behind it, and Judge is not lent them.
 fn line(rt: &impl Print, stored: &[u8], held: &[u8]) -> io::Result<()>
     requires { (length stored.now ≤ 16384) × (length held.now ≤ 16384) }
 {
@@ -81,50 +88,19 @@ fn line(rt: &impl Print, stored: &[u8], held: &[u8]) -> io::Result<()>
     let mut strict = [7i32; 4096];
     let mut open = [7i32; 4096];
     store(stored, &mut flash);
-    let before = stored.len();
-    print(rt, ": sound ", post::sound(&flash[..before]))?;
+    let sound = Numbers(post::sound(&flash[..stored.len()]));
     store(held, &mut flash);
-    let after = held.len();
-    let file = &flash[..after];
-    print(rt, ", judge ", post::judge(file, &mut strict, &mut open))?;
-    print_tables(rt, &strict, &open, room(file))
-}
-
-// Prints the line of the entry at a position, and answers where the next one begins. What does not fit ends the input.
-fn next(rt: &impl Print, all: &[u8], at: usize) -> io::Result<usize>
-    requires { at < length all.now }
-    ensures { IfOk result (λ after. (at < after) × (after ≤ length all.now)) }
-{
-    let size = all.len();
-    if size - at < 12 {
-        return Ok(size);
-    }
-    let start = at + 12;
-    let name = unsigned_at(all, at) as usize;
-    let before = unsigned_at(all, at + 4) as usize;
-    let after = unsigned_at(all, at + 8) as usize;
-    if 16384 < before {
-        return Ok(size);
-    }
-    if 16384 < after {
-        return Ok(size);
-    }
-    if size - start < name + before + after {
-        return Ok(size);
-    }
-    let middle = start + name;
-    let last = middle + before;
-    let end = last + after;
-    rt.write_all(&all[start..middle])?;
-    line(rt, &all[middle..last], &all[last..end])?;
-    Ok(end)
+    let file = &flash[..held.len()];
+    let judged = Numbers(post::judge(file, &mut strict, &mut open));
+    let tables = became(&strict, &open, room(file));
+    println!(rt; ": sound {sound}, judge {judged}, tables {tables}")
 }
 
 // Prints a line for each entry.
 fn report(rt: &impl Print, all: &[u8]) -> io::Result<()> {
-    let mut at = 0;
-    while at < all.len() {
-        at = next(rt, all, at)?;
+    for entry in Entries(all) {
+        rt.write_all(entry.name)?;
+        line(rt, entry.stored, entry.held)?;
     }
     Ok(())
 }

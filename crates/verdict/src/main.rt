@@ -11,7 +11,6 @@ ghost use Rattle.plan.specs.File.{file_answer};
 ghost use Rattle.console.specs.Verdict.{verdict_of};
 ghost use Rattle.verdict.specs.Program.{IsJudged};
 
-use answers::accepted;
 use console::{read_full, write_verdict};
 use post::{judge, sound};
 use rules::Answer;
@@ -21,10 +20,7 @@ use std::io::{self, Read, Write};
 fn answer(file: &[u8], strict: &mut [i32], open: &mut [i32]) -> Answer
     ensures { Judged version1 (file_answer file.now) (plan_of file.now) strict.old «open».old result strict.new «open».new }
 {
-    let a = sound(file);
-    if !accepted(a) {
-        return a;
-    }
+    sound(file)?;
     judge(file, strict, open)
 }
 

@@ -2,41 +2,14 @@
 // line for each with its kind, from, to, weight and two references. Where the list is longer than these arrays the verdict is `refused 9 0`.
 #![tactic(auto)]
 
-ghost use Rattle.std.specs.Prelude.{◌≡◌, ◌≤◌, nat_abs, length};
+ghost use Rattle.std.specs.Prelude.{◌≤◌, length};
 
-use answers::{code, place};
 use console::{read_full, write_verdict};
 use reasons::reasons;
-use rules::Answer;
+use rules::{Answer, Refusal};
 use std::io;
 
-// How far a number lies from zero.
-fn size(v: i64) -> u64
-    ensures { result ≡ nat_abs v }
-{
-    if v < 0 {
-        return ((-1 - v) as u64) + 1;
-    }
-    v as u64
-}
-
-// Writes a number, and a blank behind it.
-fn write_number(rt: &impl Print, v: u32) -> io::Result<()> {
-    print!(rt; "{v} ")
-}
-
-// Writes the last number of a line.
-fn write_last(rt: &impl Print, v: u32) -> io::Result<()> {
-    println!(rt; "{v}")
-}
-
-// Writes a weight, and a blank behind it.
-fn write_weight(rt: &impl Print, v: i64) -> io::Result<()> {
-    let sign = if v < 0 { "-" } else { "" };
-    print!(rt; "{sign}{} ", size(v))
-}
-
-// Writes so many lines of a list.
+// Writes so many lines of a list, which is a list for each part of a line, as the call's C form has it.
 fn write_lines(
     rt: &impl Print,
     kinds: &[u32],
@@ -50,28 +23,19 @@ fn write_lines(
     requires { (count ≤ length kinds.now) × (count ≤ length froms.now) × (count ≤ length tos.now) × (count ≤ length weights.now) × (count ≤ length firsts.now) × (count ≤ length seconds.now) }
 {
     for i in 0..count {
-        write_number(rt, kinds[i])?;
-        write_number(rt, froms[i])?;
-        write_number(rt, tos[i])?;
-        write_weight(rt, weights[i])?;
-        write_number(rt, firsts[i])?;
-        write_last(rt, seconds[i])?;
+        println!(rt; "{} {} {} {} {} {}", kinds[i], froms[i], tos[i], weights[i], firsts[i], seconds[i])?;
     }
     Ok(())
 }
 
-// How many lines an answer says there are to write: none unless it is 11, and no more than the arrays hold.
+// How many lines an answer says there are to write: none unless it lists reasons, and no more than the arrays hold.
 fn listed(a: Answer) -> usize
     ensures { result ≤ 65536 }
 {
-    if code(a) != 11 {
-        return 0;
+    match a {
+        Err(Refusal::ReasonsListed(lines)) => (lines as usize).min(65536),
+        _ => 0,
     }
-    let lines = place(a) as usize;
-    if lines > 65536 {
-        return 65536;
-    }
-    lines
 }
 
 // The byte array is one longer than the largest file, as in the small program.

@@ -1,37 +1,18 @@
 -- What one more read put behind what was read is what the input gave after it.
-use Rattle.std.proofs.Common.{◌≡◌, ℕ, ◌+◌, ◌-◌, ◌≤◌, List, ◌++◌, rules, arith, length, take, slice_range, sym, ap, ◌∙◌, subst, le_refl, drop_at, length-take-le}
-use Rattle.std.proofs.lemmas.Slice.{take-put_mid_below}
+use Rattle.std.proofs.Common.{◌≡◌, ℕ, ◌+◌, ◌≤◌, List, ◌++◌, rules, refl, sym, subst, length, take, length-take-le}
+use Rattle.std.proofs.Math.Seq.{take-append-add}
+use Rattle.std.proofs.lemmas.List.{take-append-le}
 use Rattle.std.specs.Io.KnownBytes.{Consumes}
 use Rattle.std.proofs.KnownBytes.{Consumes-trans}
-use borrow.Rule.Slice.PartMut.{put_mid, post_of}
-use lib.Seq.{take-add, take-append-le}
 use Rattle.console.proofs.read_full.Goals as goal
 
--- a front that stays, and the part behind it, are a longer front
-take_split : (a b : ℕ) (old new : List ℕ) → a ≤ b → take a new ≡ take a old → take a old ++ slice_range new a b ≡ take b new
-take_split a b old new h front =
-    let same : a + (b - a) ≡ b = omega arith in
-    ap (λ l. l ++ slice_range new a b) (sym front) ∙ sym (take-add a (b - a) new) ∙ ap (λ n. take n new) same
-
--- the part that was put into the middle
-slice_range-put_mid : (a k n : ℕ) (xs ys : List ℕ) → a ≤ length xs → n ≤ length ys → slice_range (put_mid a k xs ys) a (a + n) ≡ take n ys
-slice_range-put_mid a k n xs ys within fits =
-    let same : (a + n) - a ≡ n = omega arith in
-    let after = post_of a k xs in
-    ap (take ((a + n) - a)) (drop_at (take a xs) (ys ++ after) a (length-take-le a xs within)) ∙ ap (λ m. take m (ys ++ after)) same ∙ take-append-le n ys after fits
+-- a front, and the beginning of the part behind it
+grown : (a n : ℕ) (front part rest : List ℕ) → length front ≡ a → n ≤ length part → take (a + n) (front ++ (part ++ rest)) ≡ front ++ take n part
+grown a n front part rest long fits = rw (← long, take-append-add, take-append-le) refl
 
 pub loop-done-preserved : goal.loop-done-preserved
 loop-done-preserved g c =
     let from = c.loop-done.done in
-    let got = c.in_ok-got.got in
-    let old = c.loop-done.bytes in
-    let room = length old - from in
-    let new = put_mid from room old c.read.new.buf in
-    let within = c.loop-done.invariant.1 in
-    let part = slice_range-put_mid from room got old c.read.new.buf within c.in_ok-got.ensures.bound.0 in
-    let joined = take_split from (from + got) old new (omega arith) (take-put_mid_below _ _ _ _ _ (le_refl _) within) in (
-      search rules,
-      search rules,
-      search rules,
-      subst (Consumes _ _) (ap (λ l. take from old ++ l) (sym part) ∙ joined) (Consumes-trans _ _ _ _ _ c.loop-done.invariant.3 c.in_ok-got.ensures.bytes.0),
-    )
+    let read = c.in_ok-got.ensures in
+    let more = grown from c.in_ok-got.got (take from c.loop-done.bytes) c.read.new.buf _ (length-take-le _ _ c.loop-done.invariant.1) read.bound.0 in
+    (search rules, search rules, search rules, subst (Consumes _ _) (sym more) (Consumes-trans _ _ _ _ _ c.loop-done.invariant.3 read.bytes.0))
