@@ -14,7 +14,7 @@ use Rattle.rules.specs.Answers.{Answer, Done, ShortRoom}
 use Rattle.rules.specs.declared.Refusal.{Refusal}
 use Rattle.answers.specs.Order.{◌then◌, unless}
 use Rattle.answers.proofs.CodeZero.{not_done}
-use Rattle.plan.specs.Layout.{limit_offset, link_offset, records, head_fields, limit_fields, link_fields, plan_fields, plan_bytes}
+use Rattle.plan.specs.Layout.{limit_offset, records, head_fields, limit_fields, link_fields, plan_fields, plan_bytes}
 use Rattle.plan.specs.File.{counts_answer, limits_answer, links_answer, front_answer, plan_answer}
 use Rattle.plan.proofs.Records.{records_length}
 use Rattle.plan.proofs.TestsMade.{both}
@@ -23,6 +23,7 @@ use Rattle.plan.proofs.Stretches.{flat_length}
 use Rattle.plan.proofs.BytesOfPlans.{bytes_size}
 use Rattle.writing.specs.PlanLists.{Lists, limit_in, link_in, listed_plan, even_lists}
 use Rattle.writing.specs.Puts.{ListsOk, lists_answer, put_fields}
+use Rattle.writing.specs.RoundTrips.{size_of}
 use Rattle.writing.specs.Wrote.{file_of, write_answer, Wrote}
 use Rattle.writing.proofs.FieldsPut.{more, put_start}
 
@@ -100,7 +101,7 @@ module _ (l : Lists) where
 -- ---- the buffer
 
 -- the file of lists is as long as their lengths say
-pub file_size : (l : Lists) → length (file_of l) ≡ link_offset (length l.from) (length l.act)
+pub file_size : (l : Lists) → length (file_of l) ≡ size_of l
 unfolding listed_plan
 file_size l =
     let m = records_length (limit_in l.from l.to l.weight) 0 (length l.from) in
@@ -108,10 +109,10 @@ file_size l =
     omega (arith, bytes_size (listed_plan l), m, k)
 
 -- header, limits and links, one after the other from the start on: the file, and then what was there
-pub laid_down : (l : Lists) (before : List ℕ) → link_offset (length l.from) (length l.act) ≤ length before → {t₁ t₂ t₃ : List ℕ}
+pub laid_down : (l : Lists) (before : List ℕ) → size_of l ≤ length before → {t₁ t₂ t₃ : List ℕ}
     → t₁ ≡ put_fields before 0 (head_fields l.points (length l.from) (length l.act))
-    → t₂ ≡ put_fields t₁ (limit_offset 0) (flat_map limit_fields (records (limit_in l.from l.to l.weight) 0 (length l.from)))
-    → t₃ ≡ put_fields t₂ (limit_offset (length l.from)) (flat_map link_fields (records (link_in l.act l.con l.short l.long) 0 (length l.act)))
+    → t₂ ≡ put_fields t₁ (limit_offset 0) (flat_map limit_fields (listed_plan l).limits)
+    → t₃ ≡ put_fields t₂ (limit_offset (length l.from)) (flat_map link_fields (listed_plan l).links)
     → t₃ ≡ file_of l ++ drop (length (file_of l)) before
 unfolding plan_bytes plan_fields listed_plan
 laid_down l before room q r s =
@@ -140,7 +141,7 @@ module _ (l : Lists) (before : List ℕ) where
     unfolding write_answer
     fits f h = rw (e, h)
 
-    pub short : length before < link_offset (length l.from) (length l.act) → Wrote l before ShortRoom before
+    pub short : length before < size_of l → Wrote l before ShortRoom before
     short h =
         record {
           answer = sym (fits false (lt-leb (length (file_of l)) (length before) (omega (arith, file_size l))));
@@ -148,7 +149,7 @@ module _ (l : Lists) (before : List ℕ) where
           refused = λ d. refl;
         }
 
-    pub wrote : link_offset (length l.from) (length l.act) ≤ length before → {after : List ℕ}
+    pub wrote : size_of l ≤ length before → {after : List ℕ}
         → after ≡ file_of l ++ drop (length (file_of l)) before → Wrote l before Done after
     wrote room q =
         record {
