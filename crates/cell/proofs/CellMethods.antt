@@ -9,16 +9,17 @@ use lib.Dec.{T, eqb}
 use lib.IntN.{ℤ, pos, negsuc, neg_ℤ, nat_abs, ◌+ℤ◌, ◌-ℤ◌}
 use lib.Signed.{lt_z, non_neg, ◌≤ℤ◌, ◌<ℤ◌}
 use borrow.Author.Tests.{eq-eqb, ne_eqb}
-use mir.Syntax.{Width, w32, w64}
-use mir.Val.{Fits, SFits, of_z, to_z, hbits, bits}
+use mir.Syntax.{Width, w64}
+use mir.Val.{Fits, SFits, of_z, to_z, bits}
 use mir.ValLaws.{pow-bits}
 use Rattle.whole.specs.Signed.{larger}
 use Rattle.whole.proofs.Order.{ints, plus, neg, parts, split}
 use Rattle.whole.proofs.Larger.{larger_least}
 use Rattle.whole.proofs.Bits.{signed, kept, back, abs, by_non_neg, lt_lt_z, le_lt_z, cast_is}
-use Rattle.rules.specs.Plan.{Ranges, Link, version1}
+use Rattle.rules.specs.Plan.{Ranges, Link}
 use Rattle.rules.specs.Edges.{spread}
 use Rattle.rules.specs.Cells.{Cell, mark, num, cell_of, ◌+ᶜ◌, lowered, uppered, Within}
+pub use Rattle.cell.specs.Widths.{Room, room32, room64, room_roomy}
 use Rattle.cell.specs.Steps.{adding, roomy, is_mark, belowᶜ, Stored, Summed, clamped, height, Decides}
 
 -- ---- the mark and the numbers beside it
@@ -110,26 +111,6 @@ pub cast_cell : {w v : Width} (n : ℕ) {a : ℤ} {c : Cell} → SFits w a → S
 cast_cell n {a} h k i l = rw (cast_is h k, i) (number_is n a l)
 
 -- ---- what is asked of a width and its ranges
-
--- the mark is the largest number of the type, and three cells of the reach and their floors add up below it
-pub record Room (w : Width) (r : Ranges) : Type 0 where
-  pub top : suc r.mark ≡ 2 ^ hbits w
-  pub wide : r.reach + r.reach + r.reach + 3 ≤ r.mark
-  pub weight : r.weight ≤ r.reach
-
--- the two widths and their ranges have that room
-pub room32 : Room w32 version1
-unfolding version1
-room32 = record { top = refl; wide = omega arith; weight = omega arith }
-
-pub room64 : Room w64 adding
-unfolding adding
-room64 = record { top = refl; wide = omega arith; weight = omega arith }
-
--- and of the cells that may be added to
-pub room_roomy : Room w64 roomy
-unfolding adding
-room_roomy = record { top = refl; wide = omega arith; weight = omega arith }
 
 -- a cell that a sweep of Add holds may be added to
 pub stored_roomy : (c : Cell) → Stored adding.reach c → Stored roomy.reach c
