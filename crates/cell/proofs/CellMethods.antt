@@ -154,6 +154,14 @@ summed reach mark b s t = tt
 summed reach (num a) mark s t = tt
 summed reach (num a) (num b) s t = (omega (ints, plus a b), omega (ints, plus a b))
 
+-- a cell that a sweep holds, and the sum of two, are so at any farther reach
+pub stored_far : {reach far : ℕ} → reach ≤ far → (c : Cell) → Stored reach c → Stored far c
+stored_far h mark s = tt
+stored_far h (num a) s = (omega (ints, s.0), omega (ints, s.1))
+
+pub summed_far : {reach far : ℕ} → reach ≤ far → (c : Cell) → Summed reach c → Summed far c
+summed_far h c s = stored_far (omega arith) c s
+
 -- such a cell is one that a sweep may hold
 pub number_stored : {r : Ranges} {a : ℤ} → Number r a → Stored r.reach (cell_of r.mark a)
 number_stored x = rw x.is (x.least, x.most)
@@ -175,6 +183,18 @@ module _ {w : Width} {r : Ranges} (room : Room w r) where
   -- so is a weight
   pub weight_number : {n : ℕ} → n ≤ r.weight → Number r (pos n)
   weight_number h = in_range (omega ints) (omega ints)
+
+  -- and its cell is that number
+  pub weight_is : {v : ℤ} {n : ℕ} → n ≤ r.weight → v ≡ pos n → cell_of r.mark v ≡ num (pos n)
+  weight_is h e = rw e (weight_number h).is
+
+  -- so is the negation of a weight
+  pub minus_is : {v : ℤ} {n : ℕ} → n ≤ r.weight → v ≡ neg_ℤ (pos n) → cell_of r.mark v ≡ num (neg_ℤ (pos n))
+  minus_is {v} {n} h e = rw e (in_range {a = neg_ℤ (pos n)} (omega (ints, neg (pos n), room.weight)) (omega (ints, neg (pos n)))).is
+
+  -- and a number between the two
+  pub number_between : {v : ℤ} → neg_ℤ (pos r.weight) ≤ℤ v → v ≤ℤ pos r.weight → cell_of r.mark v ≡ num v
+  number_between {v} h k = (in_range {a = v} (omega (ints, neg (pos r.weight), room.weight)) (omega (ints, room.weight))).is
 
   -- the test of the bits for the mark is the test of the cell
   pub mark_flag : (a : ℤ) → SFits w a → eqb (of_z w a) r.mark ≡ is_mark (cell_of r.mark a)

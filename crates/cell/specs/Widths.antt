@@ -42,6 +42,14 @@ pub adding_far : adding.reach ≤ roomy.reach
 unfolding adding
 adding_far = omega arith
 
+-- the weights of a plan file are among those of the ranges
+pub version1_weights : version1.weight ≤ version1.weight
+version1_weights = omega arith
+
+pub adding_weights : version1.weight ≤ adding.weight
+unfolding version1 adding
+adding_weights = omega arith
+
 -- "its weights may exceed a file's range": a weight up to the closed range, 63 such weights and the mark go together
 pub adding_coherent : Coherent adding
 unfolding adding

@@ -11,7 +11,7 @@ ghost use Rattle.rules.specs.Cells.{◌+ᶜ◌, lowered, uppered, Within, cell_o
 ghost use Rattle.rules.proofs.Coherence.{Coherent};
 ghost use Rattle.rules.proofs.Demands.{version1_coherent};
 ghost use Rattle.cell.specs.Steps.{adding, roomy, is_mark, belowᶜ, smallerᶜ, Stored, Summed, clamped, height, Decides};
-ghost use Rattle.cell.specs.Widths.{Room, farther, room32, room64, room_roomy, Numbers, numbers32, numbers64, version1_far, adding_far, adding_coherent, Summable, version1_summable, adding_summable};
+ghost use Rattle.cell.specs.Widths.{Room, farther, room32, room64, room_roomy, Numbers, numbers32, numbers64, version1_far, adding_far, version1_weights, adding_weights, adding_coherent, Summable, version1_summable, adding_summable};
 
 pub trait Word: Copy {
     // The ranges that a table keeps to, and how many bits a cell has.
@@ -95,6 +95,9 @@ pub trait Word: Copy {
     ghost far_room: { Room width (farther ranges far) };
 
     ghost reach_far: { ranges.reach ≤ far };
+
+    // The weights of a plan file are among those of the ranges.
+    ghost weights: { version1.weight ≤ ranges.weight };
 
     ghost coherent: { Coherent ranges };
 
@@ -300,6 +303,8 @@ impl Word for i32 {
 
     ghost reach_far = { version1_far };
 
+    ghost weights = { version1_weights };
+
     ghost coherent = { version1_coherent };
 
     ghost summable = { version1_summable };
@@ -386,6 +391,8 @@ impl Word for i64 {
     ghost far_room = { room_roomy };
 
     ghost reach_far = { adding_far };
+
+    ghost weights = { adding_weights };
 
     ghost coherent = { adding_coherent };
 
