@@ -22,6 +22,7 @@ fn worked_plans_hold()
 {}
 
 // A cell or a time as it is printed: a number, or the mark by its name.
+#[derive(Clone, Copy)]
 struct Shown(i32);
 
 impl fmt::Display for Shown {
@@ -34,6 +35,7 @@ impl fmt::Display for Shown {
 }
 
 // Cells as they are printed, each behind a space.
+#[derive(Clone, Copy)]
 struct Row<'a>(&'a [i32]);
 
 impl fmt::Display for Row<'_> {
