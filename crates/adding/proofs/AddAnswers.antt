@@ -1,24 +1,25 @@
 -- Add, answer by answer: from what its calls ensure to its statement. Assumes nothing.
-use mathlib.Core.Path.{◌≡◌, refl, ap, subst, subst⁻¹, ◌∙◌}
+use mathlib.Core.Path.{◌≡◌, refl, sym, ap, subst, subst⁻¹, ◌∙◌}
 use mathlib.Core.Bool.{Bool, true, false}
+use Rattle.std.specs.Prelude.{◌⊎◌, Err}
 use mathlib.Core.Logic.{inl, inr}
 use mathlib.Core.List.{List}
 use Prim.Native.Nat.{ℕ, ◌+◌, ◌*◌, ◌≤◌, ◌<◌}
 use native.Mathlib.Omega.{arith}
-use lib.Dec.{eqb}
 use lib.ListN.{length}
 use lib.IntN.{ℤ, pos}
 use Rattle.rules.specs.Plan.{Limit, version1, LimitInRange}
-use Rattle.rules.specs.Answers.{code_of, Answer, Done, ShortRoom, NotControllable, NotClosed}
+use Rattle.rules.specs.Answers.{Answer, Done, ShortRoom, NotControllable, NotClosed}
 use Rattle.rules.specs.Cells.{table_of}
 use Rattle.rules.specs.Tables.{Tables, Closed}
 use Rattle.rules.specs.Additions.{with_cells}
 use Rattle.rules.specs.Calls as calls
 use Rattle.rules.specs.Calls.{Added, Kept, Filled, RoomForTables, scratch_of}
-use Rattle.plan.specs.declared.Header.{Header}
+use Rattle.rules.specs.declared.Refusal.{Refusal}
 use Rattle.plan.specs.Layout.{head_of, link_at, plan_of}
 use Rattle.plan.specs.File.{file_answer, add_answer}
-use Rattle.plan.proofs.SoundFile.{header_points, header_cells, add_exactly, not_accepted}
+use Rattle.plan.proofs.SoundFile.{add_exactly}
+use Rattle.answers.proofs.CodeZero.{not_done}
 use Rattle.cell.specs.Steps.{adding}
 use Rattle.lowering.specs.Table.{Ready}
 use Rattle.lowering.specs.Fair.{AllWithin}
@@ -36,9 +37,9 @@ use Rattle.adding.specs.Lent.{Lent}
 kept_filled : {a : ℕ} {c : ℤ} {t u v : List ℤ} → Kept a t u → Filled a c u v → Filled a c t v
 kept_filled k f = record { kept = kept_trans k f.kept; all_same = f.all_same }
 
-module _ {s : List ℕ} {n m k : ℕ} {l : Limit} {strict weak t : List ℤ} (v : Lent s n m k l strict weak t) where
+module _ {s : List ℕ} {n m k : ℕ} {l : Limit} {strict weak t : List ℤ} (rd : Ready s n m k) (v : Lent s n l strict weak t) where
   e : (plan_of s).points ≡ n
-  e = ready_points s n m k v.ready
+  e = ready_points s n m k rd
 
   square : (plan_of s).points * (plan_of s).points ≡ n * n
   square = ap (λ (c : ℕ). c * c) e
@@ -85,7 +86,7 @@ module _ {s : List ℕ} {n m k : ℕ} {l : Limit} {strict weak t : List ℤ} (v 
       pub started : Both adding n t₁
       started =
           subst (λ (o : ℕ). Both adding o t₁) e
-          (start_both (plan_of s) (ready_in_range s n m k v.ready) (link_at s m) k (ready_links s n m k v.ready) l limit_there strict weak
+          (start_both (plan_of s) (ready_in_range s n m k rd) (link_at s m) k (ready_links s n m k rd) l limit_there strict weak
           closed_there t t₁ room_there begun_there eb)
 
       module _ {t₂ : List ℤ} {r : Bool} (d : Ended adding n (link_at s m) k t₁ t₂ r) (ed : length t₂ ≡ length t₁) where
@@ -96,14 +97,14 @@ module _ {s : List ℕ} {n m k : ℕ} {l : Limit} {strict weak t : List ℤ} (v 
         cleared : {t₃ : List ℤ} → Filled (n * n + n * n) (pos 0) t₂ t₃ → Filled (scratch_of (plan_of s)) (pos 0) t t₃
         cleared {t₃} f =
             let both : Kept ((plan_of s).points * (plan_of s).points + (plan_of s).points * (plan_of s).points) t t₂ =
-            ends_kept (plan_of s) (ready_in_range s n m k v.ready) (link_at s m) k (ready_links s n m k v.ready) l limit_there strict weak
+            ends_kept (plan_of s) (ready_in_range s n m k rd) (link_at s m) k (ready_links s n m k rd) l limit_there strict weak
             closed_there t t₁ room_there begun_there t₂ ended_there (ed ∙ eb) in
             filled (kept_filled (subst (λ (o : ℕ). Kept (o * o + o * o) t t₂) e both) f)
 
         tables : r ≡ true → Tables (with_cells (plan_of s) (table_of version1 (plan_of s).points strict) l)
             (table_of adding (plan_of s).points (strict_part (plan_of s).points t₂)) (table_of adding (plan_of s).points (open_part (plan_of s).points t₂))
         tables q =
-            ends_tables (plan_of s) (ready_in_range s n m k v.ready) (link_at s m) k (ready_links s n m k v.ready) l limit_there strict weak
+            ends_tables (plan_of s) (ready_in_range s n m k rd) (link_at s m) k (ready_links s n m k rd) l limit_there strict weak
             closed_there t t₁ room_there begun_there t₂ ended_there q
 
         -- 11
@@ -111,7 +112,7 @@ module _ {s : List ℕ} {n m k : ℕ} {l : Limit} {strict weak t : List ℤ} (v 
             → Added version1 (add_answer s l) (plan_of s) l strict weak t NotControllable strict weak t₃
         refused q f =
             calls.Added.uncontrollable v.done tables_room room closed_there
-            (ends_against (plan_of s) (ready_in_range s n m k v.ready) (link_at s m) k (ready_links s n m k v.ready) l limit_there strict weak
+            (ends_against (plan_of s) (ready_in_range s n m k rd) (link_at s m) k (ready_links s n m k rd) l limit_there strict weak
             closed_there t t₁ room_there begun_there t₂ ended_there q)
             (cleared f)
 
@@ -140,50 +141,32 @@ module _ {s : List ℕ} {n m k : ℕ} {l : Limit} {strict weak t : List ℤ} (v 
             })
             (none_beyond (plan_of s) t₂ a' o' (subst⁻¹ (λ (j : ℕ). InReach (j * j + j * j) t₂) e i)) (cleared f)
 
--- the header that was read of a sound file
-module _ (s : List ℕ) (d : file_answer s ≡ Done) (h : Header) (e : h ≡ head_of s) where
-  pub ready_of : Ready s h.points h.limits h.links
-  ready_of =
-      record {
-        sound = d;
-        points = ap (λ (x : Header). x.points) e;
-        limits = ap (λ (x : Header). x.limits) e;
-        links = ap (λ (x : Header). x.links) e;
-      }
-
-  -- a table's size fits a number of the machine
-  pub cells_small : h.points * h.points ≤ 4096
-  cells_small = square_le (few ready_of)
-
 module _ (s : List ℕ) (l : Limit) (strict weak t : List ℤ) where
   -- the file's answer with the limit: a refusal stands
-  pub file_refused : {a : Answer} {b : Bool} → a ≡ add_answer s l → b ≡ eqb (code_of a) 0 → b ≡ false
-      → Added version1 (add_answer s l) (plan_of s) l strict weak t a strict weak t
-  file_refused e q n =
-      subst⁻¹ (λ (x : Answer). Added version1 (add_answer s l) (plan_of s) l strict weak t x strict weak t) e
-      (calls.Added.bad_file (not_accepted (add_answer s l) e q n))
+  pub file_refused : {a : Answer} {r : Refusal} → a ≡ add_answer s l → a ≡ Err r
+      → Added version1 (add_answer s l) (plan_of s) l strict weak t (Err r) strict weak t
+  file_refused e q =
+      subst (λ (x : Answer). Added version1 (add_answer s l) (plan_of s) l strict weak t x strict weak t) (sym e ∙ q)
+      (calls.Added.bad_file (λ d. not_done (sym q ∙ e ∙ d)))
 
-  -- and past it, by the header that was read
-  module _ (d : add_answer s l ≡ Done) (h : Header) (e : h ≡ head_of s) where
+  -- and past it, by the counts that the file has
+  module _ (d : add_answer s l ≡ Done) {n m k : ℕ} (rd : Ready s n m k) where
+    square_is : (plan_of s).points * (plan_of s).points ≡ n * n
+    square_is = ap (λ (c : ℕ). c * c) (ready_points s n m k rd)
+
     -- 9
-    pub strict_short : length strict < h.points * h.points → Added version1 (add_answer s l) (plan_of s) l strict weak t ShortRoom strict weak t
-    strict_short q = calls.Added.short_room d (inl (inl (omega (arith, header_cells s e))))
-
-    pub open_short : length weak < h.points * h.points → Added version1 (add_answer s l) (plan_of s) l strict weak t ShortRoom strict weak t
-    open_short q = calls.Added.short_room d (inl (inr (omega (arith, header_cells s e))))
-
-    pub scratch_short : length t < h.points * h.points + h.points * h.points
+    pub short : (length strict < n * n) ⊎ ((length weak < n * n) ⊎ (length t < n * n + n * n))
         → Added version1 (add_answer s l) (plan_of s) l strict weak t ShortRoom strict weak t
-    scratch_short q = calls.Added.short_room d (inr (omega (arith, header_cells s e)))
+    short (inl q) = calls.Added.short_room d (inl (inl (omega (arith, square_is))))
+    short (inr (inl q)) = calls.Added.short_room d (inl (inr (omega (arith, square_is))))
+    short (inr (inr q)) = calls.Added.short_room d (inr (omega (arith, square_is)))
 
     -- there is room
-    pub lent : h.points * h.points ≤ length strict → h.points * h.points ≤ length weak → h.points * h.points + h.points * h.points ≤ length t
-        → Lent s h.points h.limits h.links l strict weak t
+    pub lent : n * n ≤ length strict → n * n ≤ length weak → n * n + n * n ≤ length t → Lent s n l strict weak t
     lent a b c =
         record {
-          ready = ready_of s ((add_exactly s l).0 d).0 h e;
           done = d;
-          limit = subst (λ (o : ℕ). LimitInRange version1 o l) (header_points s e) ((add_exactly s l).0 d).1;
+          limit = subst (λ (o : ℕ). LimitInRange version1 o l) (ready_points s n m k rd) ((add_exactly s l).0 d).1;
           strict_room = a;
           open_room = b;
           scratch_room = c;

@@ -10,59 +10,54 @@ ghost use Rattle.plan.specs.File.{add_answer};
 ghost use Rattle.plan.specs.Values.{limit_of};
 ghost use Rattle.adding.specs.Lent.{Lent};
 
-use answers::accepted;
 use closed::closed;
-use plan::{Limit, head, sound_with};
-use rules::Answer;
+use plan::{Limit, sound_with};
+use reader::{SoundPlan, known};
+use rules::{Answer, Refusal};
 use scratch::{all_in_reach, begin, clear, finish, settle};
 
 // For closed tables: the sweeps in the scratch, and the tables written where their result is in reach.
 fn sweeps(
-    file: &[u8],
-    n: usize,
-    m: u32,
-    k: u32,
+    plan: SoundPlan,
     l: Limit,
     strict: &mut [i32],
     open: &mut [i32],
     cells: &mut [i64],
 ) -> Answer
-    requires { Lent file.now n m k (limit_of l) strict.old «open».old cells.old × Closed version1 (plan_of file.now) (table_of version1 n strict.old) (table_of version1 n «open».old) }
-    ensures { Added version1 (add_answer file.now (limit_of l)) (plan_of file.now) (limit_of l) strict.old «open».old cells.old result strict.new «open».new cells.new }
+    requires { Lent plan.file.now plan.n (limit_of l) strict.old «open».old cells.old × Closed version1 (plan_of plan.file.now) (table_of version1 plan.n strict.old) (table_of version1 plan.n «open».old) }
+    ensures { Added version1 (add_answer plan.entry.file.now (limit_of l)) (plan_of plan.entry.file.now) (limit_of l) strict.old «open».old cells.old result strict.new «open».new cells.new }
 {
+    let n = plan.n;
     let room = n * n + n * n;
     begin(strict, cells, n, l);
-    if !settle(file, n, m, k, cells) {
+    if !settle(plan.file, n, plan.m, plan.k, cells) {
         clear(cells, room); // a refusal leaves no trace
-        return Answer::NotControllable;
+        return Err(Refusal::NotControllable);
     }
     if !all_in_reach(cells, room) {
         clear(cells, room);
-        return Answer::NotClosed;
+        return Err(Refusal::NotClosed);
     }
     finish(cells, strict, open, n);
-    Answer::Done
+    Ok(())
 }
 
 // With room for all: whether the tables are closed, and the sweeps.
 fn add_to(
-    file: &[u8],
-    n: usize,
-    m: u32,
-    k: u32,
+    plan: SoundPlan,
     l: Limit,
     strict: &mut [i32],
     open: &mut [i32],
     cells: &mut [i64],
 ) -> Answer
-    requires { Lent file.now n m k (limit_of l) strict.old «open».old cells.old }
-    ensures { Added version1 (add_answer file.now (limit_of l)) (plan_of file.now) (limit_of l) strict.old «open».old cells.old result strict.new «open».new cells.new }
+    requires { Lent plan.file.now plan.n (limit_of l) strict.old «open».old cells.old }
+    ensures { Added version1 (add_answer plan.entry.file.now (limit_of l)) (plan_of plan.entry.file.now) (limit_of l) strict.old «open».old cells.old result strict.new «open».new cells.new }
 {
-    if !closed(file, n, m, k, strict, open) {
-        clear(cells, n * n + n * n);
-        return Answer::NotClosed;
+    if !closed(plan.file, plan.n, plan.m, plan.k, strict, open) {
+        clear(cells, plan.n * plan.n + plan.n * plan.n);
+        return Err(Refusal::NotClosed);
     }
-    sweeps(file, n, m, k, l, strict, open, cells)
+    sweeps(plan, l, strict, open, cells)
 }
 
 // Add: the limit from x to y of weight w, put on two tables of a plan file.
@@ -77,26 +72,16 @@ pub fn add(
 ) -> Answer
     ensures { Added version1 (add_answer file.now (record { from = x; to = y; weight = w })) (plan_of file.now) (record { from = x; to = y; weight = w }) strict.old «open».old cells.old result strict.new «open».new cells.new }
 {
-    let a = sound_with(file, x, y, w);
-    if !accepted(a) {
-        return a;
-    }
-    let h = head(file);
-    let n = h.points as usize;
-    let room = n * n;
-    if strict.len() < room {
-        return Answer::ShortRoom;
-    }
-    if open.len() < room {
-        return Answer::ShortRoom;
-    }
-    if cells.len() < room + room {
-        return Answer::ShortRoom;
+    sound_with(file, x, y, w)?;
+    let plan = known(file);
+    let room = plan.n * plan.n;
+    if strict.len() < room || open.len() < room || cells.len() < room + room {
+        return Err(Refusal::ShortRoom);
     }
     let l = Limit {
         from: x,
         to: y,
         weight: w,
     };
-    add_to(file, n, h.limits, h.links, l, strict, open, cells)
+    add_to(plan, l, strict, open, cells)
 }

@@ -30,12 +30,12 @@ pub not_done : {r : Refusal} → Err r ≡ Done → ⊥
 not_done {r} e = true≢false (sym (ap (λ (a : Answer). eqb (code_of a) 0) e) ∙ refusal_code r)
 
 pub code_zero : (a : Answer) → eqb (code_of a) 0 ≡ true → a ≡ Done
-code_zero (Ok tt) e = refl
+code_zero Done e = refl
 code_zero (Err r) e = absurd (false≢true (sym (refusal_code r) ∙ e))
 
 -- two answers one after the other are Done where both are
 pub then_done : (a b : Answer) → (a then b) ≡ Done → (a ≡ Done) × (b ≡ Done)
-then_done (Ok tt) b e = (refl, e)
+then_done Done b e = (refl, e)
 then_done (Err r) b e = absurd (not_done e)
 
 pub done_then : (a b : Answer) → a ≡ Done → b ≡ Done → (a then b) ≡ Done
@@ -43,7 +43,7 @@ done_then a b p q = rw p q
 
 -- three answers one after the other, in whichever brackets
 pub then_assoc : (a b c : Answer) → ((a then b) then c) ≡ (a then b then c)
-then_assoc (Ok done) b c = refl
+then_assoc Done b c = refl
 then_assoc (Err r) b c = refl
 
 -- a refusal that a test guards does not come where the test holds, and only there

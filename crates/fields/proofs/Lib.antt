@@ -1,3 +1,2 @@
--- Fields read and written: signed numbers by halves, and that a field and its bytes are inverse.
-pub mod Halves
+-- Fields read and written: that a field and its bytes are inverse, and a signed number and its bits.
 pub mod FieldBytes

@@ -191,11 +191,11 @@ file_faults s h = by head refl (to_limits s) refl
     by (Err r) e b f =
         let is : file_answer s ≡ head = parts s ∙ simp e in
         absurd (omega (arith, head_code (length s) (head_of s), ap code_of is))
-    by (Ok done) e (Err r) f =
+    by Done e (Err r) f =
         let is : file_answer s ≡ to_limits s = parts s ∙ simp (e, f) in
         let refused : to_limits s ≢ Done = λ d. not_done (sym f ∙ d) in
         (e, rw is (FileBlamed.by_limit (rw zero-add at (limits_found version1 n (limit_at s) 0 m (below_none _) refused))))
-    by (Ok done) e (Ok tt) f =
+    by Done e Done f =
         let is : file_answer s ≡ to_links s = parts s ∙ simp (e, f) in
         let refused : to_links s ≢ Done = λ d. omega (arith, ap code_of (is ∙ d)) in
         let none : LinksBefore version1 n (link_at s m) 0 =

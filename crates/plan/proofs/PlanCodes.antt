@@ -20,7 +20,7 @@ pub record Refusals (P : Answer → Type 0) : Type 0 where
   pub repeated : (i : ℕ) → P (RepeatedLink i)
 
 pub then_holds : (P : Answer → Type 0) (a b : Answer) → P a → P b → P (a then b)
-then_holds P (Ok tt) b h k = k
+then_holds P Done b h k = k
 then_holds P (Err r) b h k = h
 
 pub unless_holds : (P : Answer → Type 0) (t : Bool) (a : Answer) → P Done → P a → P (unless t a)

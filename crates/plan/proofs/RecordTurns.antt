@@ -1,13 +1,13 @@
 -- Records in file order, one at a time: what a turn of each loop does to the answer that it is working out.
 -- `records f i (m - i)` are the records from index i to the last, `earlier f i` those before it. Assumes nothing.
 use mathlib.Core.Path.{◌≡◌, sym, ap, ◌∙◌}
-use mathlib.Core.Bool.{Bool, true, false, not}
+use mathlib.Core.Bool.{Bool, true, false}
 use mathlib.Core.List.{[], ◌∷◌}
 use Prim.Native.Nat.{ℕ, suc, ◌+◌, ◌-◌, ◌≤◌, ◌<◌}
 use native.Mathlib.Numerals.{add-one}
 use native.Mathlib.Omega.{arith}
 use borrow.Author.Tests.{eq-eqb, ne_eqb}
-use Rattle.std.specs.Prelude.{Ok, Err}
+use Rattle.std.specs.Prelude.{Err}
 use Rattle.rules.specs.Plan.{Limit, Link, Ranges}
 use Rattle.rules.specs.Answers.{Answer, Done}
 use Rattle.rules.specs.declared.Refusal.{Refusal}

@@ -2,8 +2,8 @@
 -- later proofs need of the bytes. With Add's limit it is Done exactly where both the file and the limit are in range.
 -- Assumes nothing.
 use mathlib.Core.Path.{◌≡◌, refl, sym, ap, ◌∙◌}
-use mathlib.Core.Logic.{◌↔◌, ◌≢◌}
-use mathlib.Core.Bool.{Bool, true, false, not, ◌&&◌, true≢false}
+use mathlib.Core.Logic.{◌↔◌}
+use mathlib.Core.Bool.{true, ◌&&◌}
 use mathlib.Core.List.{List, Memᴰ}
 use Prim.Native.Nat.{ℕ, ◌*◌, ◌≤◌, ◌<◌}
 use native.Mathlib.Nat.{zero-add}
@@ -12,13 +12,13 @@ use lib.Dec.{leb, eqb}
 use lib.ListN.{length}
 use borrow.Author.Tests.{leb-true, eqb-true, le-leb, eq-eqb}
 use Rattle.rules.specs.Plan.{Limit, Link, version1, LimitInRange, LinkInRange, InRange}
-use Rattle.rules.specs.Answers.{code_of, Answer, Done, FewBytes, BadVersion}
+use Rattle.rules.specs.Answers.{Answer, Done, FewBytes, BadVersion}
 use Rattle.plan.specs.declared.Header.{Header}
 use Rattle.plan.specs.Layout.{head_of, limit_offset, link_offset, limit_at, link_at, plan_of}
 use Rattle.answers.specs.Order.{◌then◌, unless}
-use Rattle.answers.proofs.CodeZero.{code_zero, then_done, done_then, unless_done}
+use Rattle.answers.proofs.CodeZero.{then_done, done_then, unless_done}
 use Rattle.plan.specs.File.{laid_out, form_answer, limit_answer, back_answer, plan_answer, file_front, file_answer, add_answer, PlanFile}
-use Rattle.plan.proofs.TestsMade.{failed, passed, both, and}
+use Rattle.plan.proofs.TestsMade.{both, and}
 use Rattle.plan.proofs.FileParts.{file_parts}
 pub use Rattle.plan.proofs.FileParts.{limits_length, links_length, points_is}
 use Rattle.plan.proofs.Records.{Listed, record_in, in_records}

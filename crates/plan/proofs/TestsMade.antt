@@ -1,8 +1,7 @@
 -- Tests: one that a call made and whose negation is a condition, as the call's contract has it; and two that are asked together.
 -- Assumes nothing.
 use mathlib.Core.Path.{◌≡◌, sym, ◌∙◌}
-use mathlib.Core.Bool.{Bool, true, false, not, ◌&&◌, and-eq-true_iff}
-use borrow.Author.Tests.{not-true, not-false}
+use mathlib.Core.Bool.{Bool, true, false, ◌&&◌, and-eq-true_iff}
 
 -- the negation held: the test failed
 pub failed : {r t : Bool} → r ≡ t → r ≡ false → t ≡ false

@@ -1,5 +1,5 @@
-// The plan file: from lent bytes to the paper's plan, with nothing copied. What reads a file is total: it takes any bytes. Only the answer to a
-// single record asks for something: an index in range, so that the record's offset fits into a place.
+// The plan file: from lent bytes to the paper's plan, with nothing copied. What reads a file is total: it takes any bytes. Only the answers to
+// records ask for something: indices in range, so that a record's offset fits into a place.
 // What each answers is said by the definitions of specs/, which follow the paper.
 #![tactic(auto)]
 
@@ -7,6 +7,7 @@ mod faults;
 mod fits;
 mod record;
 mod scan;
+mod sources;
 
 ghost use Rattle.std.specs.Prelude.{◌≡◌};
 ghost use Rattle.rules.specs.Plan.{version1};
@@ -17,7 +18,9 @@ pub use faults::{limit_answer, link_answer};
 use fits::{counts_fit, laid_out, points_fit};
 pub use record::{head, limit_at, link_at};
 use rules::{Answer, Refusal};
-use scan::{limits, links};
+pub use scan::{limits, links};
+use sources::FileRecords;
+pub use sources::PlanRecords;
 
 // A limit: point `to` comes at most `weight` after point `from`.
 #[derive(Clone, Copy)]
@@ -83,7 +86,8 @@ fn front(file: &[u8]) -> Answer
 {
     let h = head(file);
     head_answer(file.len(), h)?;
-    limits(file, h.points, h.limits)
+    let m = h.limits;
+    limits(&FileRecords { file, m }, h.points, m)
 }
 
 // Sound: whether any bytes are a plan file, codes 1 to 8 in the paper's order. `post` hands it on as a call of the library.
@@ -92,7 +96,8 @@ pub fn sound(file: &[u8]) -> Answer
 {
     front(file)?;
     let h = head(file);
-    links(file, h.points, h.limits, h.links)
+    let m = h.limits;
+    links(&FileRecords { file, m }, h.points, m, h.links)
 }
 
 // The same with the limit that is handed to Add, which is tested between the file's limits and its links.
@@ -107,5 +112,6 @@ pub fn sound_with(file: &[u8], x: u32, y: u32, w: i32) -> Answer
         weight: w,
     };
     limit_answer(h.points, h.limits, added)?;
-    links(file, h.points, h.limits, h.links)
+    let m = h.limits;
+    links(&FileRecords { file, m }, h.points, m, h.links)
 }

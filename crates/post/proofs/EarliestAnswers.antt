@@ -12,16 +12,15 @@ use Rattle.rules.specs.Calls as calls
 use Rattle.rules.specs.Calls.{RoomForTables, Written, Judged, Timed, TimesOf}
 use Rattle.rules.specs.Answers.{Answer, Done, ShortRoom, HasLinks, code_of}
 use Rattle.rules.proofs.Demands.{version1_coherent, demand2_of_plans}
-use Rattle.plan.specs.declared.Header.{Header}
 use Rattle.plan.specs.Layout.{head_of, plan_of}
 use Rattle.plan.specs.File.{file_answer}
-use Rattle.plan.proofs.SoundFile.{header_points, links_length}
+use Rattle.plan.proofs.SoundFile.{links_length}
 use Rattle.cell.proofs.StoredCells.{within_stored}
 use Rattle.lowering.specs.Table.{Sound, Ready}
 use Rattle.lowering.proofs.Laws.ReadyFile.{ready_points, ready_in_range}
 use Rattle.post.specs.Lent.{Lent}
 use Rattle.post.specs.Lent as before
-use Rattle.post.proofs.JudgeAnswers.{Enough, ready_room}
+use Rattle.post.proofs.JudgeAnswers.{ready_room}
 
 -- ---- before the work
 
@@ -36,31 +35,16 @@ empty_links : (ks : List Link) → length ks ≡ 0 → ks ≡ []
 empty_links [] e = refl
 empty_links (k ∷ ks) e = absurd (omega arith)
 
-module _ (s : List ℕ) (h : Header) (e : h ≡ head_of s) (strict weak times : List ℤ) (q : Enough s (length strict) (length weak)) where
-  links : length (plan_of s).links ≡ h.links
-  links = links_length s ∙ ap (λ (x : Header). x.links) (sym e)
-
-  room : RoomForTables (plan_of s) strict weak
-  room = record { strict_room = q.strict_room; open_room = q.open_room }
-
+module _ {s : List ℕ} {n m k : ℕ} (r : Ready s n m k) {strict weak times : List ℤ} (ls : n * n ≤ length strict) (lw : n * n ≤ length weak) where
   -- too few times
-  pub times_short : length times < h.points → Timed version1 (file_answer s) (plan_of s) strict weak times ShortRoom strict weak times
-  times_short l = calls.Timed.short_room q.sound (inr (omega (arith, header_points s e)))
+  pub times_short : length times < n → Timed version1 (file_answer s) (plan_of s) strict weak times ShortRoom strict weak times
+  times_short l = calls.Timed.short_room r.sound (inr (omega (arith, ready_points s n m k r)))
 
   -- a plan with links
-  pub times_links : h.points ≤ length times → h.links ≢ 0 → Timed version1 (file_answer s) (plan_of s) strict weak times HasLinks strict weak times
-  times_links l n =
-      calls.Timed.has_links q.sound room (omega (arith, header_points s e)) (λ z. n (sym links ∙ ap (λ (ks : List Link). length ks) z))
-
-  -- the header of a file without links
-  pub ready_no_links : h.links ≡ 0 → Ready s h.points (head_of s).limits 0
-  ready_no_links z =
-      record {
-        sound = q.sound;
-        points = ap (λ (x : Header). x.points) e;
-        limits = refl;
-        links = sym z ∙ ap (λ (x : Header). x.links) e;
-      }
+  pub times_links : n ≤ length times → k ≢ 0 → Timed version1 (file_answer s) (plan_of s) strict weak times HasLinks strict weak times
+  times_links l z =
+      calls.Timed.has_links r.sound (ready_room s n m k r strict weak ls lw) (omega (arith, ready_points s n m k r))
+      (λ e. z (r.links ∙ sym (links_length s) ∙ ap (λ (ks : List Link). length ks) e))
 
 -- ---- the work
 
@@ -72,13 +56,13 @@ written_of (calls.Judged.short_room e b) d = let z : ◌≡◌ {A = ℕ} 9 0 = a
 written_of (calls.Judged.uncontrollable e q u b) d = let z : ◌≡◌ {A = ℕ} 11 0 = ap code_of d in absurd (omega arith)
 written_of (calls.Judged.judged e q w) d = w
 
-module _ (s : List ℕ) (n m : ℕ) (r : Ready s n m 0) (strict weak times : List ℤ) (ls : n * n ≤ length strict) (lw : n * n ≤ length weak)
+module _ (s : List ℕ) (n m k : ℕ) (r : Ready s n m k) (z : k ≡ 0) (strict weak times : List ℤ) (ls : n * n ≤ length strict) (lw : n * n ≤ length weak)
     (lt : n ≤ length times) where
   no_links : (plan_of s).links ≡ []
-  no_links = empty_links (plan_of s).links (links_length s ∙ sym r.links)
+  no_links = empty_links (plan_of s).links (links_length s ∙ sym r.links ∙ z)
 
   enough_times : (plan_of s).points ≤ length times
-  enough_times = omega (arith, ready_points s n m 0 r)
+  enough_times = omega (arith, ready_points s n m k r)
 
   -- Judge's refusal is Earliest's
   pub refused_timed : {a : Answer} {strict' weak' : List ℤ} → Judged version1 (file_answer s) (plan_of s) strict weak a strict' weak' → a ≢ Done
@@ -91,14 +75,14 @@ module _ (s : List ℕ) (n m : ℕ) (r : Ready s n m 0) (strict weak times : Lis
   -- the plan's tables are such as a sweep stores
   pub written_sound : {strict' weak' : List ℤ} → Written version1 (plan_of s) strict weak strict' weak' → Sound version1 n strict'
   written_sound {strict'} {weak'} w =
-      let p : (plan_of s).points ≡ n = ready_points s n m 0 r in
+      let p : (plan_of s).points ≡ n = ready_points s n m k r in
       subst (λ (x : ℕ). Sound version1 x strict') p
       (record {
         room = omega (arith, p, ap (λ (x : ℕ). x * x) p, w.strict_kept.length_same);
         stored = λ x y hx hy.
             within_stored version1.reach (table_of version1 (plan_of s).points strict' x y)
             (((demand2_of_plans version1 version1_coherent).tables_are_closed (plan_of s) (table_of version1 (plan_of s).points strict')
-            (table_of version1 (plan_of s).points weak') (ready_in_range s n m 0 r) w.tables).strict_within x y hx hy);
+            (table_of version1 (plan_of s).points weak') (ready_in_range s n m k r) w.tables).strict_within x y hx hy);
       })
 
   -- with its times, Earliest is done
@@ -106,4 +90,4 @@ module _ (s : List ℕ) (n m : ℕ) (r : Ready s n m 0) (strict weak times : Lis
       → ((p : Plan) → p.points ≡ n → TimesOf version1 p strict' times times')
       → Timed version1 (file_answer s) (plan_of s) strict weak times Done strict' weak' times'
   timed_done w t =
-      calls.Timed.timed r.sound (ready_room s n m 0 r strict weak ls lw) enough_times no_links w (t (plan_of s) (ready_points s n m 0 r))
+      calls.Timed.timed r.sound (ready_room s n m k r strict weak ls lw) enough_times no_links w (t (plan_of s) (ready_points s n m k r))

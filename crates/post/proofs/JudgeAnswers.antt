@@ -1,21 +1,20 @@
 -- Judge, answer by answer: from what its calls ensure to its statement. Assumes nothing.
-use mathlib.Core.Path.{◌≡◌, refl, ap, subst, subst⁻¹}
-use mathlib.Core.Bool.{Bool, true, false}
+use mathlib.Core.Path.{◌≡◌, refl, sym, ap, subst, subst⁻¹, ◌∙◌}
+use Rattle.std.specs.Prelude.{◌⊎◌, Err}
 use mathlib.Core.Logic.{◌≢◌, inl, inr}
 use mathlib.Core.List.{List}
 use Prim.Native.Nat.{ℕ, ◌*◌, ◌≤◌, ◌<◌}
 use native.Mathlib.Omega.{arith}
-use lib.Dec.{eqb}
 use lib.ListN.{length}
 use lib.IntN.{ℤ, pos}
 use Rattle.rules.specs.Plan.{version1}
-use Rattle.rules.specs.Answers.{code_of, Answer, Done, ShortRoom, NotControllable}
+use Rattle.rules.specs.Answers.{Answer, Done, ShortRoom, NotControllable}
+use Rattle.rules.specs.declared.Refusal.{Refusal}
+use Rattle.answers.proofs.CodeZero.{not_done}
 use Rattle.rules.specs.Calls as calls
 use Rattle.rules.specs.Calls.{Kept, Filled, RoomForTables, Written, Judged}
-use Rattle.plan.specs.declared.Header.{Header}
-use Rattle.plan.specs.Layout.{head_of, plan_of}
+use Rattle.plan.specs.Layout.{plan_of}
 use Rattle.plan.specs.File.{file_answer}
-use Rattle.plan.proofs.SoundFile.{header_cells, not_accepted}
 use Rattle.lowering.specs.Table.{Ready}
 use Rattle.lowering.specs.Sweep.{mark_all}
 use Rattle.tables.specs.Ends.{Refused}
@@ -27,39 +26,14 @@ use Rattle.post.specs.Lent as before
 
 -- ---- what comes before the work
 
-pub record Enough (s : List ℕ) (strict weak : ℕ) : Type 0 where
-  pub sound : file_answer s ≡ Done
-  pub strict_room : (plan_of s).points * (plan_of s).points ≤ strict
-  pub open_room : (plan_of s).points * (plan_of s).points ≤ weak
-
 -- the file's own refusal
-pub lent_refused : (s : List ℕ) (strict weak : ℕ) {a : Answer} {b : Bool} → a ≡ file_answer s → b ≡ eqb (code_of a) 0 → b ≡ false
-    → Lent s strict weak a
-lent_refused s strict weak e t n = subst⁻¹ (Lent s strict weak) e (before.Lent.bad_file (not_accepted (file_answer s) e t n))
+pub lent_refused : {s : List ℕ} (strict weak : ℕ) {r : Refusal} → file_answer s ≡ Err r → Lent s strict weak (Err r)
+lent_refused {s} strict weak e = subst (Lent s strict weak) e (before.Lent.bad_file (λ d. not_done (sym e ∙ d)))
 
--- the header that was read of a sound file says how many cells a table has
-module _ (s : List ℕ) (d : file_answer s ≡ Done) (h : Header) (e : h ≡ head_of s) (strict weak : ℕ) where
-  pub lent_short_strict : strict < h.points * h.points → Lent s strict weak ShortRoom
-  lent_short_strict l = before.Lent.short d (inl (omega (arith, header_cells s e)))
-
-  pub lent_short_open : weak < h.points * h.points → Lent s strict weak ShortRoom
-  lent_short_open l = before.Lent.short d (inr (omega (arith, header_cells s e)))
-
-  pub lent_done : h.points * h.points ≤ strict → h.points * h.points ≤ weak → Lent s strict weak Done
-  lent_done ls lw = before.Lent.enough d (omega (arith, header_cells s e)) (omega (arith, header_cells s e))
-
-  -- and the other way
-  pub strict_enough : Enough s strict weak → h.points * h.points ≤ strict
-  strict_enough q = omega (arith, header_cells s e, q.strict_room)
-
-  pub open_enough : Enough s strict weak → h.points * h.points ≤ weak
-  open_enough q = omega (arith, header_cells s e, q.open_room)
-
--- nothing was refused
-pub lent_enough : {s : List ℕ} {strict weak : ℕ} {a : Answer} → Lent s strict weak a → a ≡ Done → Enough s strict weak
-lent_enough (before.Lent.bad_file n) e = absurd (n e)
-lent_enough (before.Lent.short d r) e = let z : ◌≡◌ {A = ℕ} 9 0 = ap code_of e in absurd (omega arith)
-lent_enough (before.Lent.enough d r w) e = record { sound = d; strict_room = r; open_room = w }
+-- the counts of a sound file say how many cells a table has
+pub lent_short : {s : List ℕ} {n m k : ℕ} → Ready s n m k → {strict weak : ℕ} → (strict < n * n) ⊎ (weak < n * n) → Lent s strict weak ShortRoom
+lent_short {s} {n} {m} {k} r (inl l) = before.Lent.short r.sound (inl (omega (arith, ap (λ (x : ℕ). x * x) (ready_points s n m k r))))
+lent_short {s} {n} {m} {k} r (inr l) = before.Lent.short r.sound (inr (omega (arith, ap (λ (x : ℕ). x * x) (ready_points s n m k r))))
 
 -- a refusal, as Judge answers it
 pub lent_judged : {s : List ℕ} {a : Answer} (strict weak : List ℤ) → Lent s (length strict) (length weak) a → a ≢ Done

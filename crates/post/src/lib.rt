@@ -14,16 +14,15 @@ ghost use Rattle.plan.specs.Layout.{plan_of};
 ghost use Rattle.plan.specs.File.{file_answer};
 
 pub use adding::add;
-use answers::accepted;
 use closed::closed;
 pub use faces::{
     post_add, post_check, post_earliest, post_judge, post_reasons, post_rests, post_sound,
     post_write,
 };
+use judging::lent;
 pub use judging::judge;
-use plan::head;
 pub use plan::sound;
-use rules::Answer;
+use rules::{Answer, Refusal};
 pub use rules::Side;
 pub use timing::earliest;
 pub use word_faces::{post_both, post_bounded, post_reach, post_reach_add};
@@ -33,23 +32,11 @@ pub use writing::write;
 pub fn check(file: &[u8], strict: &[i32], open: &[i32]) -> Answer
     ensures { Checked version1 (file_answer file.now) (plan_of file.now) strict.now «open».now result }
 {
-    let a = sound(file);
-    if !accepted(a) {
-        return a;
+    let plan = lent(file, strict.len(), open.len())?;
+    if !closed(plan.file, plan.n, plan.m, plan.k, strict, open) {
+        return Err(Refusal::NotClosed);
     }
-    let h = head(file);
-    let n = h.points as usize;
-    let cells = n * n;
-    if strict.len() < cells {
-        return Answer::ShortRoom;
-    }
-    if open.len() < cells {
-        return Answer::ShortRoom;
-    }
-    if closed(file, n, h.limits, h.links, strict, open) {
-        return Answer::Done;
-    }
-    Answer::NotClosed
+    Ok(())
 }
 
 // Whether there is a row x in two tables of so many cells.

@@ -1,2 +1,3 @@
 -- What is read through a reader.
 pub mod Planned
+pub mod Plans

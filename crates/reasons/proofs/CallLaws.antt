@@ -22,6 +22,9 @@ use Rattle.chain.specs.Follows.{Follows, start, limit, longest, shortest, lower_
 use Rattle.chain.specs.Call.{Lists, room_of, Reasoned}
 use Rattle.chain.proofs.EveryLineFollows.{reasons_follow}
 use Rattle.chain.proofs.OneList.{one}
+use Rattle.rules.specs.declared.Refusal.{Refusal}
+use Rattle.std.specs.Prelude.{Err}
+use Rattle.answers.proofs.CodeZero.{not_done}
 use Rattle.reasons.specs.declared.Run.{Run}
 use Rattle.reasons.specs.Notes.{laid}
 use Rattle.reasons.specs.Working.{Worked}
@@ -107,8 +110,10 @@ room_read t e = e
 -- ---- before the list is worked out
 
 -- a file that is refused, and a work room that is too short
-pub answer_file : (s : List ℕ) {lists : Lists} {work : List ℤ} {a : Answer} → a ≡ file_answer s → file_answer s ≢ Done → Reasoned (file_answer s) (plan_of s) lists work a lists work
-answer_file s e n = rw e (Reasoned.bad_file n)
+pub answer_file : (s : List ℕ) {lists : Lists} {work : List ℤ} {a : Answer} {r : Refusal} → a ≡ file_answer s → a ≡ Err r
+    → Reasoned (file_answer s) (plan_of s) lists work (Err r) lists work
+answer_file s {lists} {work} e q =
+    subst (λ (x : Answer). Reasoned (file_answer s) (plan_of s) lists work x lists work) (sym e ∙ q) (Reasoned.bad_file (λ d. not_done (sym q ∙ e ∙ d)))
 
 pub ready_made : {s : List ℕ} {h : Header} → h ≡ head_of s → file_answer s ≡ Done → Ready s h.points h.limits h.links
 ready_made e d = record { sound = d; points = ap (λ (q : Header). q.points) e; limits = ap (λ (q : Header). q.limits) e; links = ap (λ (q : Header). q.links) e }

@@ -15,11 +15,10 @@ ghost use Rattle.plan.specs.File.{file_answer};
 ghost use Rattle.chain.specs.Call.{Reasoned};
 ghost use Rattle.reasons.specs.Notes.{columns};
 
-use answers::accepted;
 use listing::listed;
 use offers::Draft;
 use plan::{head, sound};
-use rules::Answer;
+use rules::{Answer, Refusal};
 
 // Where the working-out stands: in which of its seven parts, and how many steps of the three loops of that part are done.
 #[derive(Clone, Copy)]
@@ -57,14 +56,11 @@ pub fn reasons(
 ) -> Answer
     ensures { Reasoned (file_answer file.now) (plan_of file.now) (columns kinds.old froms.old tos.old weights.old firsts.old seconds.old) work.old result (columns kinds.new froms.new tos.new weights.new firsts.new seconds.new) work.new }
 {
-    let a = sound(file);
-    if !accepted(a) {
-        return a;
-    }
+    sound(file)?;
     let h = head(file);
     let n = h.points;
     if work.len() < 4 * ((n * n) as usize) {
-        return Answer::ShortRoom;
+        return Err(Refusal::ShortRoom);
     }
     listed(
         file, n, h.limits, h.links, kinds, froms, tos, weights, firsts, seconds, work,

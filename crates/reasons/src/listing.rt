@@ -8,7 +8,7 @@ ghost use Rattle.reasons.specs.Notes.{columns};
 
 use crate::starting::clear;
 use crate::working::run;
-use rules::Answer;
+use rules::{Answer, Refusal};
 
 // The smaller of two lengths.
 fn fewer(a: usize, b: usize) -> usize
@@ -51,7 +51,7 @@ pub fn listed(
     );
     if !counted.ended {
         clear(work, cells); // nothing is left of the work
-        return Answer::Done;
+        return Ok(());
     }
     let room = room_of(
         kinds.len(),
@@ -63,11 +63,11 @@ pub fn listed(
     );
     if counted.lines > room {
         clear(work, cells);
-        return Answer::ShortRoom;
+        return Err(Refusal::ShortRoom);
     }
     run(
         file, n, m, k, kinds, froms, tos, weights, firsts, seconds, room, work,
     );
     clear(work, cells);
-    Answer::ReasonsListed(counted.lines as u32)
+    Err(Refusal::ReasonsListed(counted.lines as u32))
 }

@@ -2,6 +2,7 @@
 -- several of them cite. Assumes nothing.
 pub use mathlib.Core.Path.{◌≡◌, refl}
 pub use Prim.Native.Nat.{◌-◌, ◌≤◌}
+pub use lib.ListN.{length}
 pub use native.Mathlib.Nat.{sub-zero}
 pub use native.Mathlib.Omega.{arith}
 pub use borrow.Author.Rules.{rules, sfits_of}

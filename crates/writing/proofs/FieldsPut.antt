@@ -118,10 +118,3 @@ limit_next f s at i r e q = record_next limit_fields f s at 3 (λ y. refl) i r e
 pub link_next : (f : ℕ → Link) (s : List ℕ) (at i : ℕ) {t u : List ℕ} {x : Link} → RecordsPut link_fields f s at i t → x ≡ f i
     → u ≡ put_fields t (at + 16 * i) (link_fields x) → RecordsPut link_fields f s at (i + 1) u
 link_next f s at i r e q = record_next link_fields f s at 4 (λ y. refl) i r e q
-
--- all of them
-pub all_put : {A : Type 0} (fields : A → List ℕ) (f : ℕ → A) (s : List ℕ) (at n i : ℕ) {t : List ℕ} → RecordsPut fields f s at i t
-    → i ≤ n → n ≤ i → t ≡ put_fields s at (flat_map fields (records f 0 n))
-all_put fields f s at n i r h k =
-    let e : i ≡ n = omega arith in
-    rw (← e) r.put

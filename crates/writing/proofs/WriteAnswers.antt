@@ -1,7 +1,7 @@
--- What `write` answers, from what the calls ensure: l are the lists, a and b answers, t and u what was said of whether they are no refusal.
+-- What `write` answers, from what the calls ensure: l are the lists, a, b and c answers.
 -- Assumes nothing.
 use mathlib.Core.Path.{◌≡◌, refl, sym, ap, ◌∙◌}
-use mathlib.Core.Bool.{Bool, true, false, ◌&&◌, false≢true}
+use mathlib.Core.Bool.{Bool, true, false, ◌&&◌}
 use mathlib.Core.List.{List, [], ◌++◌, flat_map}
 use Prim.Native.Nat.{ℕ, ◌+◌, ◌*◌, ◌≤◌, ◌<◌}
 use native.Mathlib.Omega.{arith}
@@ -9,27 +9,24 @@ use lib.Dec.{leb, eqb}
 use lib.ListN.{length, drop, length-append}
 use borrow.Author.Tests.{eqb-true, le-leb, lt-leb}
 use Rattle.rules.specs.Plan.{Limit, Link, version1}
-use Rattle.rules.specs.Answers.{code_of, Answer, Done, ShortRoom}
+use Rattle.std.specs.Prelude.{Err}
+use Rattle.rules.specs.Answers.{Answer, Done, ShortRoom}
+use Rattle.rules.specs.declared.Refusal.{Refusal}
 use Rattle.answers.specs.Order.{◌then◌, unless}
-use Rattle.answers.proofs.CodeZero.{then_done}
+use Rattle.answers.proofs.CodeZero.{not_done}
 use Rattle.plan.specs.Layout.{limit_offset, link_offset, records, head_fields, limit_fields, link_fields, plan_fields, plan_bytes}
 use Rattle.plan.specs.File.{counts_answer, limits_answer, links_answer, front_answer, plan_answer}
 use Rattle.plan.proofs.Records.{records_length}
-use Rattle.plan.proofs.TestsMade.{failed, passed, both}
+use Rattle.plan.proofs.TestsMade.{both}
 use Rattle.plan.proofs.TestsDecide.{counts_ok}
-use Rattle.plan.proofs.SoundFile.{is_accepted, not_accepted}
 use Rattle.plan.proofs.Stretches.{flat_length}
 use Rattle.plan.proofs.BytesOfPlans.{bytes_size}
 use Rattle.writing.specs.PlanLists.{Lists, limit_in, link_in, listed_plan, even_lists}
-use Rattle.writing.specs.Puts.{ListsOk, put_fields}
+use Rattle.writing.specs.Puts.{ListsOk, lists_answer, put_fields}
 use Rattle.writing.specs.Wrote.{file_of, write_answer, Wrote}
 use Rattle.writing.proofs.FieldsPut.{more, put_start}
 
 -- ---- codes 3 to 8
-
--- the answer to the plan that lists hold
-abbrev pub lists_answer : Lists → Answer
-lists_answer l = plan_answer version1 (even_lists l) (listed_plan l)
 
 module _ (l : Lists) where
   n : ℕ
@@ -77,39 +74,28 @@ module _ (l : Lists) where
         long = eqb-true (length l.long) k p.1;
       }
 
-  accepted_ok : lists_answer l ≡ Done → ListsOk l
-  accepted_ok e =
-      let p = then_done (counts then limits_answer version1 n 0 limits) (links_answer version1 n m 0 [] links) (rw parts at e) in
-      ok (then_done counts (limits_answer version1 n 0 limits) p.0).0
-
-  module _ {laid : Bool} (g : laid ≡ even_lists l) {a : Answer} (p : a ≡ counts_answer version1 l.points (length l.from) (length l.act) laid)
-      {t : Bool} (e : t ≡ eqb (code_of a) 0) where
-    counted : a ≡ counts
+  module _ {laid : Bool} (g : laid ≡ even_lists l) {a : Answer} (p : a ≡ counts_answer version1 l.points (length l.from) (length l.act) laid) where
+    counted : counts ≡ a
     unfolding counts n m k
-    counted = p ∙ ap (counts_answer version1 n m k) g
+    counted = sym (p ∙ ap (counts_answer version1 n m k) g)
 
-    pub counts_stop : t ≡ false → a ≡ lists_answer l
-    counts_stop u = rw (parts, ← counted) (simp (failed e u))
+    pub counts_stop : {r : Refusal} → a ≡ Err r → lists_answer l ≡ Err r
+    counts_stop u = rw (parts, counted, u)
 
-    module _ (u : t ≡ true) where
+    module _ (u : a ≡ Done) where
       pub counts_passed : ListsOk l
-      counts_passed = ok (is_accepted counts counted e u)
+      counts_passed = ok (counted ∙ u)
 
-      module _ {b : Answer} (q : b ≡ limits_answer version1 l.points 0 (records (limit_in l.from l.to l.weight) 0 (length l.from)))
-          {v : Bool} (f : v ≡ eqb (code_of b) 0) where
-        pub limits_refused : v ≡ false → b ≡ lists_answer l
+      module _ {b : Answer} (q : b ≡ limits_answer version1 l.points 0 (records (limit_in l.from l.to l.weight) 0 (length l.from))) where
+        pub limits_stop : {r : Refusal} → b ≡ Err r → lists_answer l ≡ Err r
         unfolding limits n m
-        limits_refused w = rw (parts, ← counted, passed e u, ← q, failed f w)
+        limits_stop w = rw (parts, counted, u, ← q, w)
 
-        pub links_answer_lem : v ≡ true → {c : Answer}
+        pub links_all : b ≡ Done → {c : Answer}
             → c ≡ links_answer version1 l.points (length l.from) 0 [] (records (link_in l.act l.con l.short l.long) 0 (length l.act))
-            → c ≡ lists_answer l
+            → lists_answer l ≡ c
         unfolding limits links n m k
-        links_answer_lem w r = rw (parts, ← counted, passed e u, ← q, passed f w) r
-
--- past those tests, from what was said of the answer to all of them
-pub passed_ok : (l : Lists) {a : Answer} → a ≡ lists_answer l → {t : Bool} → t ≡ eqb (code_of a) 0 → t ≡ true → ListsOk l
-passed_ok l p e u = accepted_ok l (is_accepted (lists_answer l) p e u)
+        links_all w r = rw (parts, counted, u, ← q, w, ← r)
 
 -- ---- the buffer
 
@@ -143,27 +129,22 @@ laid_down l before room q r s =
     ∙ ap (put_fields before 0) (sym same)
     ∙ put_start before (plan_fields (listed_plan l)) (omega (arith, file_size l))
 
-module _ (l : Lists) (before : List ℕ) {a : Answer} (p : a ≡ lists_answer l) {t : Bool} (e : t ≡ eqb (code_of a) 0) where
-  pub refused : t ≡ false → Wrote l before a before
+module _ (l : Lists) (before : List ℕ) where
+  pub refused : {r : Refusal} → lists_answer l ≡ Err r → Wrote l before (Err r) before
   unfolding write_answer
-  refused u =
-      record {
-        answer = rw (← p) (simp (failed e u));
-        written = λ d. absurd (not_accepted (lists_answer l) p e u (sym p ∙ d));
-        refused = λ d. refl;
-      }
+  refused e = record { answer = rw e; written = λ d. absurd (not_done d); refused = λ d. refl }
 
-  module _ (u : t ≡ true) where
+  module _ (e : lists_answer l ≡ Done) where
     -- the file fits or not
     fits : (f : Bool) → leb (length (file_of l)) (length before) ≡ f → write_answer l (length before) ≡ unless f ShortRoom
     unfolding write_answer
-    fits f h = rw (is_accepted (lists_answer l) p e u, h)
+    fits f h = rw (e, h)
 
     pub short : length before < link_offset (length l.from) (length l.act) → Wrote l before ShortRoom before
     short h =
         record {
           answer = sym (fits false (lt-leb (length (file_of l)) (length before) (omega (arith, file_size l))));
-          written = λ d. absurd (false≢true (ap (λ (x : Answer). eqb (code_of x) 0) d));
+          written = λ d. absurd (not_done d);
           refused = λ d. refl;
         }
 

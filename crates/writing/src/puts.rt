@@ -7,9 +7,9 @@ ghost use Rattle.plan.specs.Values.{limit_of, link_of};
 ghost use Rattle.writing.specs.PlanLists.{limit_in, link_in};
 ghost use Rattle.writing.specs.Puts.{put_fields};
 
-use crate::listed::{limit_in, link_in};
+use crate::even::EvenLists;
 use fields::{bits, put};
-use plan::{Limit, Link};
+use plan::{Limit, Link, PlanRecords};
 
 // Three fields from a position on.
 fn put_three(buffer: &mut [u8], at: usize, a: u32, b: u32, c: u32)
@@ -49,43 +49,23 @@ fn put_link(buffer: &mut [u8], at: usize, link: Link)
     put(buffer, at + 12, link.long);
 }
 
-// The first m limits of three lists, where a file's limits begin.
-pub fn put_limits(buffer: &mut [u8], m: u32, from: &[u32], to: &[u32], weight: &[i32])
-    requires { (limit_offset m ≤ length buffer.old) × (m ≤ length from.now) × (m ≤ length to.now) × (m ≤ length weight.now) }
-    ensures { buffer.new ≡ put_fields buffer.old (limit_offset 0) (flat_map limit_fields (records (limit_in from.now to.now weight.now) 0 m)) }
+// The limits of lists, where a file's limits begin.
+pub fn put_limits(buffer: &mut [u8], even: EvenLists)
+    requires { limit_offset (length even.lists.from.now) ≤ length buffer.old }
+    ensures { buffer.new ≡ put_fields buffer.old (limit_offset 0) (flat_map limit_fields (records (limit_in even.entry.lists.from.now even.entry.lists.to.now even.entry.lists.weight.now) 0 (length even.entry.lists.from.now))) }
 {
-    let mut i = 0;
-    while i < m {
-        put_limit(
-            buffer,
-            24 + 12 * (i as usize),
-            limit_in(from, to, weight, i),
-        );
-        i += 1;
+    for i in 0..even.m() {
+        put_limit(buffer, 24 + 12 * (i as usize), even.limit(i));
     }
 }
 
-// The first k links of four lists, where a file's links begin after m limits.
-pub fn put_links(
-    buffer: &mut [u8],
-    m: u32,
-    k: u32,
-    act: &[u32],
-    con: &[u32],
-    short: &[u32],
-    long: &[u32],
-)
-    requires { (link_offset m k ≤ length buffer.old) × (k ≤ length act.now) × (k ≤ length con.now) × (k ≤ length short.now) × (k ≤ length long.now) }
-    ensures { buffer.new ≡ put_fields buffer.old (limit_offset m) (flat_map link_fields (records (link_in act.now con.now short.now long.now) 0 k)) }
+// The links of lists, where a file's links begin after their limits.
+pub fn put_links(buffer: &mut [u8], even: EvenLists)
+    requires { link_offset (length even.lists.from.now) (length even.lists.act.now) ≤ length buffer.old }
+    ensures { buffer.new ≡ put_fields buffer.old (limit_offset (length even.entry.lists.from.now)) (flat_map link_fields (records (link_in even.entry.lists.act.now even.entry.lists.con.now even.entry.lists.short.now even.entry.lists.long.now) 0 (length even.entry.lists.act.now))) }
 {
-    let first = 24 + 12 * (m as usize);
-    let mut i = 0;
-    while i < k {
-        put_link(
-            buffer,
-            first + 16 * (i as usize),
-            link_in(act, con, short, long, i),
-        );
-        i += 1;
+    let first = 24 + 12 * (even.m() as usize);
+    for i in 0..even.k() {
+        put_link(buffer, first + 16 * (i as usize), even.link(i));
     }
 }

@@ -8,8 +8,8 @@ returns-in_err-head_answer c =
     let p = err_from_is_err_and c.from_residual.result c.from_residual.ensures.1 in
     rw (p.1, p.2) (front_stop c.args.file.now c.head-h.ensures c.head_answer.ensures c.in_err-head_answer.was)
 
-pub limits-requires : goal.limits-requires
-limits-requires c = search (past_head, c.in_ok-head_answer.was)
+pub limits-requires-clause-few : goal.limits-requires-clause-few
+limits-requires-clause-few c = search (past_head, c.in_ok-head_answer.was)
 
 pub returns : goal.returns
 returns c = search (front_next, c.in_ok-head_answer.was)

@@ -1,7 +1,6 @@
 -- As `sound`, with Add's limit between. Assumes nothing.
 use Rattle.std.proofs.lemmas.Result.{err_from_is_err_and}
-use Rattle.plan.proofs.Common.{◌≡◌, version1, w32, to_z-of_z}
-use Rattle.plan.specs.File.{limit_answer}
+use Rattle.plan.proofs.Common.{w32, to_z-of_z}
 use Rattle.plan.proofs.FirstRefusal.{add_stop, past_front_limits, past_front_links, add_own, add_next}
 use Rattle.plan.proofs.sound_with.Goals as goal
 
@@ -19,8 +18,8 @@ returns-in_err-limit_answer c =
     let p = err_from_is_err_and c.from_residual-in_err-limit_answer.result c.from_residual-in_err-limit_answer.ensures.1 in
     rw (p.1, p.2) (add_own c.args.file.now c.front.ensures c.in_ok-front.was c.head-h.ensures _ own c.in_err-limit_answer.was)
 
-pub links-requires : goal.links-requires
-links-requires c = (search (past_front_limits, c.in_ok-front.was), search (past_front_links, c.in_ok-front.was))
+pub links-requires-clause-few : goal.links-requires-clause-few
+links-requires-clause-few c = (search (past_front_limits, c.in_ok-front.was), search (past_front_links, c.in_ok-front.was))
 
 pub returns : goal.returns
 returns c =

@@ -1,63 +1,21 @@
--- `write` meets its contract: the lists' own refusal, a buffer that is too short, or the file.
--- Assumes nothing.
-use Rattle.writing.proofs.Common.{arith, version1}
-use Rattle.writing.specs.PlanLists.{lists}
-use Rattle.writing.proofs.WriteAnswers.{passed_ok, refused, short, wrote}
+-- The lists' own refusal, a buffer that is too short, or the file. Assumes nothing.
+use Rattle.std.proofs.lemmas.Result.{err_from_is_err_and}
+use Rattle.writing.proofs.Common.{arith}
+use Rattle.writing.proofs.WriteAnswers.{refused, short, wrote}
 use Rattle.writing.proofs.write.Goals as goal
 
-pub returns-then-not-accepted : goal.returns-then-not-accepted
-returns-then-not-accepted c =
-    let a = c.args in
-    let l = lists a.n a.from.now a.to.now a.weight.now a.act.now a.con.now a.short.now a.long.now in
-    refused l a.buffer.now c.lists_answer-answer.ensures c.accepted.ensures c.if-not-accepted.true
+pub returns-in_err-even : goal.returns-in_err-even
+returns-in_err-even c =
+    let p = err_from_is_err_and c.from_residual.result c.from_residual.ensures.1 in
+    rw (p.1, p.2) (refused _ c.args.buffer.now c.in_err-even.ensures)
 
--- past the first test m and k are small
-pub overflow_mul-from : goal.overflow_mul-from
-unfolding version1
-overflow_mul-from c =
-    let a = c.args in
-    let l = lists a.n a.from.now a.to.now a.weight.now a.act.now a.con.now a.short.now a.long.now in
-    let o = passed_ok l c.lists_answer-answer.ensures c.accepted.ensures c.if-not-accepted.false in
-    omega (arith, o.limits)
-
-pub overflow_add-from : goal.overflow_add-from
-unfolding version1
-overflow_add-from c =
-    let a = c.args in
-    let l = lists a.n a.from.now a.to.now a.weight.now a.act.now a.con.now a.short.now a.long.now in
-    let o = passed_ok l c.lists_answer-answer.ensures c.accepted.ensures c.if-not-accepted.false in
-    omega (arith, o.limits)
-
-pub overflow_mul-act : goal.overflow_mul-act
-unfolding version1
-overflow_mul-act c =
-    let a = c.args in
-    let l = lists a.n a.from.now a.to.now a.weight.now a.act.now a.con.now a.short.now a.long.now in
-    let o = passed_ok l c.lists_answer-answer.ensures c.accepted.ensures c.if-not-accepted.false in
-    omega (arith, o.links)
-
-pub overflow_add-from-2 : goal.overflow_add-from-2
-unfolding version1
-overflow_add-from-2 c =
-    let a = c.args in
-    let l = lists a.n a.from.now a.to.now a.weight.now a.act.now a.con.now a.short.now a.long.now in
-    let o = passed_ok l c.lists_answer-answer.ensures c.accepted.ensures c.if-not-accepted.false in
-    omega (arith, o.limits, o.links)
-
-pub returns-then-buffer-from : goal.returns-then-buffer-from
-returns-then-buffer-from c =
-    let a = c.args in
-    let l = lists a.n a.from.now a.to.now a.weight.now a.act.now a.con.now a.short.now a.long.now in
-    short l a.buffer.now c.lists_answer-answer.ensures c.accepted.ensures c.if-not-accepted.false (omega arith)
-
-pub lay_down-requires : goal.lay_down-requires
-lay_down-requires c =
-    let a = c.args in
-    let l = lists a.n a.from.now a.to.now a.weight.now a.act.now a.con.now a.short.now a.long.now in
-    (passed_ok l c.lists_answer-answer.ensures c.accepted.ensures c.if-not-accepted.false, omega arith)
+pub returns-then-buffer-size : goal.returns-then-buffer-size
+returns-then-buffer-size c =
+    let size = rw c.in_ok-even.ensures.0 at c.size.ensures in
+    short _ c.args.buffer.now c.in_ok-even.ensures.1 (omega (arith, size))
 
 pub returns : goal.returns
 returns c =
-    let a = c.args in
-    let l = lists a.n a.from.now a.to.now a.weight.now a.act.now a.con.now a.short.now a.long.now in
-    wrote l a.buffer.now c.lists_answer-answer.ensures c.accepted.ensures c.if-not-accepted.false (omega arith) c.lay_down.ensures
+    let size = rw c.in_ok-even.ensures.0 at c.size.ensures in
+    let file = rw c.in_ok-even.ensures.0 at c.lay_down.ensures in
+    wrote _ c.args.buffer.now c.in_ok-even.ensures.1 (omega (arith, size)) file
