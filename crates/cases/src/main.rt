@@ -13,8 +13,7 @@ ghost use Rattle.cases.specs.Paper.{paper};
 use console::{Numbers, read_full};
 use fields::{signed_at, unsigned_at};
 use post::Side;
-use std::fmt;
-use std::io;
+use std::{fmt, io};
 
 // What the documents say of the plans that they work through holds of the definitions that the calls are held to.
 fn worked_plans_hold()
