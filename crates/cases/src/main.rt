@@ -13,8 +13,7 @@ ghost use Rattle.cases.specs.Paper.{paper};
 use console::{Numbers, read_full};
 use fields::{signed_at, unsigned_at};
 use post::Side;
-use std::fmt;
-use std::io;
+use std::{fmt, io};
 
 // What the documents say of the plans that they work through holds of the definitions that the calls are held to.
 fn worked_plans_hold()
@@ -22,6 +21,7 @@ fn worked_plans_hold()
 {}
 
 // A cell or a time as it is printed: a number, or the mark by its name.
+#[derive(Clone, Copy)]
 struct Shown(i32);
 
 impl fmt::Display for Shown {
@@ -34,6 +34,7 @@ impl fmt::Display for Shown {
 }
 
 // Cells as they are printed, each behind a space.
+#[derive(Clone, Copy)]
 struct Row<'a>(&'a [i32]);
 
 impl fmt::Display for Row<'_> {
