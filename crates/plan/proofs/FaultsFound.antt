@@ -14,7 +14,7 @@ use Rattle.rules.specs.Plan.{Limit, Link, Ranges, version1, LimitInRange, LinkIn
 use Rattle.rules.specs.Answers.{code_of, place_of, Answer, Done, FewBytes, BadVersion, BadLimit}
 use Rattle.answers.specs.Order.{◌then◌, unless}
 use Rattle.answers.proofs.CodeZero.{not_done}
-use Rattle.std.specs.Prelude.{Ok, Err}
+use Rattle.std.specs.Prelude.{Err}
 use Rattle.plan.specs.declared.Header.{Header}
 use Rattle.plan.specs.Layout.{head_of, limit_offset, link_offset, limit_at, link_at, records, earlier, plan_of}
 use Rattle.plan.specs.File.{laid_out, form_answer, counts_answer, weight_fits, contingent_fits, longest_fits, limit_tests, link_tests, limit_fits, link_fits}

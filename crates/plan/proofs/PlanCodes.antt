@@ -2,7 +2,7 @@
 use mathlib.Core.Bool.{Bool, true, false}
 use mathlib.Core.List.{List, [], ◌∷◌}
 use Prim.Native.Nat.{ℕ, suc}
-use Rattle.std.specs.Prelude.{Ok, Err}
+use Rattle.std.specs.Prelude.{Err}
 use lib.ListN.{length}
 use Rattle.rules.specs.Plan.{Limit, Link, Plan, Ranges}
 use Rattle.rules.specs.Answers.{Answer, Done, BadPoints, BadCounts, BadLayout, BadLimit, BadLink, RepeatedLink}

@@ -6,7 +6,7 @@ use Rattle.rules.specs.Answers.{Answer}
 use Rattle.rules.specs.Answers.{Done, ShortRoom, HasLinks, NotControllable, NotClosed}
 use Rattle.rules.specs.Plan.{Limit, Plan, Ranges}
 use Rattle.rules.specs.Walks.{Uncontrollable}
-use Rattle.rules.specs.Cells.{Cell, num, Within, Table, table_of}
+use Rattle.rules.specs.Cells.{num, Within, Table, table_of}
 use Rattle.rules.specs.Tables.{Tables, Closed}
 use Rattle.rules.specs.Additions.{with_cells}
 

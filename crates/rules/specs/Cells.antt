@@ -1,6 +1,6 @@
 -- Document 01, "Two tables": a cell, the mark and how it adds, and a lent list read as a table.
 -- Assumes nothing.
-use Rattle.std.specs.Prelude.{Bool, true, false, cond, List, ℕ, zero, ◌+◌, ◌*◌, eqb, get_or, ℤ, pos, negsuc, neg_ℤ, ◌+ℤ◌, ◌≤ℤ◌}
+use Rattle.std.specs.Prelude.{cond, List, ℕ, zero, ◌+◌, ◌*◌, eqb, get_or, ℤ, pos, negsuc, neg_ℤ, ◌+ℤ◌, ◌≤ℤ◌}
 use Rattle.std.specs.Int.Signed.{lt_z}
 use Rattle.rules.specs.Plan.{Link, Ranges}
 use Rattle.rules.specs.Edges.{spread, upper_weight}

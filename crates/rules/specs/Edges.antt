@@ -1,6 +1,6 @@
 -- Document 01, "Edges and rules": given edges, the three rules, lower-case edges.
 -- An edge is a from, a to and a weight; a family of edges says which there are. Assumes nothing.
-use Rattle.std.specs.Prelude.{◌≢◌, ℕ, zero, ◌<◌, ℤ, pos, neg_ℤ, ◌+ℤ◌, ◌-ℤ◌, ◌≤ℤ◌, ◌<ℤ◌}
+use Rattle.std.specs.Prelude.{◌≢◌, ℕ, zero, ◌<◌, ℤ, pos, neg_ℤ, ◌+ℤ◌, ◌-ℤ◌, ◌<ℤ◌}
 use mathlib.Core.List.{Memᴰ}
 use Rattle.whole.specs.Signed.{larger}
 use Rattle.rules.specs.Plan.{Limit, Link, Plan}

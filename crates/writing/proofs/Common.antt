@@ -1,13 +1,7 @@
--- What the walks through the code import, from one place: the tactics' sets, the kit's numbers and lists, and the definitions, records and laws that
--- several of them cite. Assumes nothing.
+-- What the proofs of the functions import, from one place: the kit's numbers and lists, and the definitions that several of them cite. Assumes nothing.
 pub use mathlib.Core.Path.{◌≡◌, refl}
-pub use Prim.Native.Nat.{◌-◌, ◌≤◌}
 pub use lib.ListN.{length}
-pub use native.Mathlib.Nat.{sub-zero}
 pub use native.Mathlib.Omega.{arith}
-pub use borrow.Author.Rules.{rules, sfits_of}
-pub use mir.Syntax.{w32}
-pub use mir.ValLaws.{to_z-of_z}
 unfoldable pub use Rattle.rules.specs.Plan.{version1}
-pub use Rattle.plan.specs.Layout.{earlier, records}
-unfoldable pub use Rattle.writing.specs.PlanLists.{limit_in, link_in}
+pub use Rattle.plan.specs.Layout.{records}
+unfoldable pub use Rattle.writing.specs.PlanLists.{limit_in, link_in, listed_plan}

@@ -6,7 +6,7 @@ use Prim.Native.Nat.{ℕ, suc, ◌+◌, ◌*◌, ◌≤◌}
 use native.Mathlib.Nat.{add-zero, zero-add}
 use native.Mathlib.Omega.{arith}
 use lib.ListN.{length, drop, set}
-use lib.Seq.{sets, length-sets, sets-eq}
+use lib.Seq.{sets, sets-eq}
 use Rattle.fields.specs.Bytes.{word_bytes}
 use Rattle.rules.specs.Plan.{Limit, Link}
 use Rattle.plan.specs.Layout.{records, limit_fields, link_fields}
@@ -72,10 +72,6 @@ pub three_more : (s : List ℕ) (a b c d e f : ℕ) {t u : List ℕ} → t ≡ p
     → u ≡ put_fields s 0 (a ∷ b ∷ c ∷ d ∷ e ∷ f ∷ [])
 three_more s a b c d e f p q = more s 0 (a ∷ b ∷ c ∷ []) (d ∷ e ∷ f ∷ []) 12 p (omega arith) q
 
--- the length stays
-put_length : (s : List ℕ) (at : ℕ) (ws : List ℕ) → length (put_fields s at ws) ≡ length s
-put_length s at ws = length-sets s at (flat_map word_bytes ws)
-
 -- fields from the start on, where there is room: their bytes, and then what was there
 pub put_start : (s ws : List ℕ) → length (flat_map word_bytes ws) ≤ length s
     → put_fields s 0 ws ≡ flat_map word_bytes ws ++ drop (length (flat_map word_bytes ws)) s
@@ -84,37 +80,24 @@ put_start s ws h =
     let e : 0 + length bytes ≡ length bytes = omega arith in
     sets-eq bytes s 0 (omega arith) ∙ ap (λ k. bytes ++ drop k s) e
 
--- ---- records
+-- ---- records: after the first i, as fields from a position on, one more, of c fields
 
--- the first i records, as fields, one after the other from a position on, and the length stays
-pub record RecordsPut {A : Type 0} (fields : A → List ℕ) (f : ℕ → A) (s : List ℕ) (at i : ℕ) (t : List ℕ) : Type 0 where
-  pub put : t ≡ put_fields s at (flat_map fields (records f 0 i))
-  pub same : length t ≡ length s
-
-module _ {A : Type 0} (fields : A → List ℕ) (f : ℕ → A) (s : List ℕ) (at : ℕ) where
-  pub records_none : RecordsPut fields f s at 0 s
-  unfolding flat_map
-  records_none = record { put = refl; same = refl }
-
-  -- one more record, of c fields
-  record_next : (c : ℕ) → ((y : A) → length (fields y) ≡ c) → (i : ℕ) {t u : List ℕ} {x : A} → RecordsPut fields f s at i t → x ≡ f i
-      → u ≡ put_fields t (at + 4 * c * i) (fields x) → RecordsPut fields f s at (i + 1) u
-  record_next c l i {t} {u} {x} r e q =
+module _ {A : Type 0} (fields : A → List ℕ) (c : ℕ) (each : (y : A) → length (fields y) ≡ c) (f : ℕ → A) (s : List ℕ) (at : ℕ) where
+  record_next : (i : ℕ) {t u : List ℕ} {x : A} → t ≡ put_fields s at (flat_map fields (records f 0 i)) → x ≡ f i
+      → u ≡ put_fields t (at + 4 * c * i) (fields x) → u ≡ put_fields s at (flat_map fields (records f 0 (i + 1)))
+  record_next i {x = x} r e q =
       let done = flat_map fields (records f 0 i) in
-      let long : length done ≡ c * i = flat_length fields c l (records f 0 i) ∙ ap (λ k. c * k) (records_length f 0 i) in
+      let long : length done ≡ c * i = flat_length fields c each (records f 0 i) ∙ ap (λ k. c * k) (records_length f 0 i) in
       let last : flat_map fields (records f 0 (i + 1)) ≡ done ++ fields x =
       ap (flat_map fields) (records_last f i)
       ∙ flat_map_append fields (records f 0 i) (f i ∷ [])
       ∙ ap (λ r. done ++ r) (flat_map_one fields (f i) ∙ ap fields (sym e)) in
-      record {
-        put = more s at done (fields x) (at + 4 * c * i) r.put (omega (arith, long)) q ∙ ap (put_fields s at) (sym last);
-        same = ap length q ∙ put_length t (at + 4 * c * i) (fields x) ∙ r.same;
-      }
+      more s at done (fields x) (at + 4 * c * i) r (omega (arith, long)) q ∙ ap (put_fields s at) (sym last)
 
-pub limit_next : (f : ℕ → Limit) (s : List ℕ) (at i : ℕ) {t u : List ℕ} {x : Limit} → RecordsPut limit_fields f s at i t → x ≡ f i
-    → u ≡ put_fields t (at + 12 * i) (limit_fields x) → RecordsPut limit_fields f s at (i + 1) u
-limit_next f s at i r e q = record_next limit_fields f s at 3 (λ y. refl) i r e q
+pub limit_next : (f : ℕ → Limit) (s : List ℕ) (at i : ℕ) {t u : List ℕ} {x : Limit} → t ≡ put_fields s at (flat_map limit_fields (records f 0 i))
+    → x ≡ f i → u ≡ put_fields t (at + 12 * i) (limit_fields x) → u ≡ put_fields s at (flat_map limit_fields (records f 0 (i + 1)))
+limit_next f s at i r e q = record_next limit_fields 3 (λ y. refl) f s at i r e q
 
-pub link_next : (f : ℕ → Link) (s : List ℕ) (at i : ℕ) {t u : List ℕ} {x : Link} → RecordsPut link_fields f s at i t → x ≡ f i
-    → u ≡ put_fields t (at + 16 * i) (link_fields x) → RecordsPut link_fields f s at (i + 1) u
-link_next f s at i r e q = record_next link_fields f s at 4 (λ y. refl) i r e q
+pub link_next : (f : ℕ → Link) (s : List ℕ) (at i : ℕ) {t u : List ℕ} {x : Link} → t ≡ put_fields s at (flat_map link_fields (records f 0 i))
+    → x ≡ f i → u ≡ put_fields t (at + 16 * i) (link_fields x) → u ≡ put_fields s at (flat_map link_fields (records f 0 (i + 1)))
+link_next f s at i r e q = record_next link_fields 4 (λ y. refl) f s at i r e q

@@ -1,8 +1,8 @@
 // Lists that belong together and are of one length, from which limit i and link i are read.
 ghost use Rattle.std.specs.Prelude.{◌≡◌, ◌<◌, length};
-ghost use Rattle.plan.specs.Layout.{link_offset};
 ghost use Rattle.writing.specs.PlanLists.{limit_in, link_in};
 ghost use Rattle.writing.specs.Puts.{ListsOk, lent};
+ghost use Rattle.writing.specs.RoundTrips.{size_of};
 
 use crate::lists::PlanLists;
 use plan::{Limit, Link, PlanRecords};
@@ -32,7 +32,7 @@ impl<'a> EvenLists<'a> {
 
     // The length of the plan's file.
     pub fn size(self) -> usize
-        ensures { result ≡ link_offset (length self.entry.lists.from.now) (length self.entry.lists.act.now) }
+        ensures { result ≡ size_of (lent self.entry.lists) }
     {
         24 + 12 * self.lists.from.len() + 16 * self.lists.act.len()
     }

@@ -7,9 +7,9 @@ mod puts;
 
 ghost use Rattle.std.specs.Prelude.{◌≡◌, ◌++◌, ◌≤◌, length, drop, MatchResult};
 ghost use Rattle.rules.specs.Answers.{Done};
-ghost use Rattle.plan.specs.Layout.{link_offset};
 ghost use Rattle.writing.specs.PlanLists.{lists};
 ghost use Rattle.writing.specs.Puts.{lent, lists_answer};
+ghost use Rattle.writing.specs.RoundTrips.{size_of};
 ghost use Rattle.writing.specs.Wrote.{file_of, Wrote};
 
 use even::EvenLists;
@@ -31,10 +31,10 @@ fn sound(lists: PlanLists) -> Result<EvenLists, Refusal>
 
 // The file at the start of a buffer that has room for it.
 fn lay_down(even: EvenLists, buffer: &mut [u8])
-    requires { link_offset (length even.lists.from.now) (length even.lists.act.now) ≤ length buffer.old }
+    requires { size_of (lent even.lists) ≤ length buffer.old }
     ensures { buffer.new ≡ file_of (lent even.entry.lists) ++ drop (length (file_of (lent even.entry.lists))) buffer.old }
 {
-    put_head(buffer, even.lists.n, even.m(), even.k());
+    put_head(buffer, even);
     put_limits(buffer, even);
     put_links(buffer, even);
 }

@@ -1,11 +1,11 @@
-// Header, limits and links written into a buffer that has room for them.
+// Header, limits and links of even lists, written into a buffer that has room for them.
 ghost use Rattle.std.specs.Prelude.{◌≡◌, ◌+◌, ◌≤◌, length};
 ghost use mathlib.Core.List.{[], ◌∷◌, flat_map};
-ghost use Rattle.rules.specs.Plan.{version1};
-ghost use Rattle.plan.specs.Layout.{limit_offset, link_offset, records, head_fields, limit_fields, link_fields};
+ghost use Rattle.plan.specs.Layout.{limit_offset, head_fields, limit_fields, link_fields};
 ghost use Rattle.plan.specs.Values.{limit_of, link_of};
-ghost use Rattle.writing.specs.PlanLists.{limit_in, link_in};
-ghost use Rattle.writing.specs.Puts.{put_fields};
+ghost use Rattle.writing.specs.PlanLists.{listed_plan};
+ghost use Rattle.writing.specs.Puts.{lent, put_fields};
+ghost use Rattle.writing.specs.RoundTrips.{size_of};
 
 use crate::even::EvenLists;
 use fields::{bits, put};
@@ -21,13 +21,14 @@ fn put_three(buffer: &mut [u8], at: usize, a: u32, b: u32, c: u32)
     put(buffer, at + 8, c);
 }
 
-// The header of a plan of n points, m limits and k links.
-pub fn put_head(buffer: &mut [u8], n: u32, m: u32, k: u32)
-    requires { (limit_offset 0 ≤ length buffer.old) × (m ≤ version1.limits) }
-    ensures { buffer.new ≡ put_fields buffer.old 0 (head_fields n m k) }
+// The header.
+pub fn put_head(buffer: &mut [u8], even: EvenLists)
+    requires { limit_offset 0 ≤ length buffer.old }
+    ensures { buffer.new ≡ put_fields buffer.old 0 (head_fields even.entry.lists.n (length even.entry.lists.from.now) (length even.entry.lists.act.now)) }
 {
-    put_three(buffer, 0, 1, n, m);
-    put_three(buffer, 12, k, 24, 24 + 12 * m);
+    let m = even.m();
+    put_three(buffer, 0, 1, even.lists.n, m);
+    put_three(buffer, 12, even.k(), 24, 24 + 12 * m);
 }
 
 // A limit at a position.
@@ -49,20 +50,20 @@ fn put_link(buffer: &mut [u8], at: usize, link: Link)
     put(buffer, at + 12, link.long);
 }
 
-// The limits of lists, where a file's limits begin.
+// The limits, where a file's limits begin.
 pub fn put_limits(buffer: &mut [u8], even: EvenLists)
     requires { limit_offset (length even.lists.from.now) ≤ length buffer.old }
-    ensures { buffer.new ≡ put_fields buffer.old (limit_offset 0) (flat_map limit_fields (records (limit_in even.entry.lists.from.now even.entry.lists.to.now even.entry.lists.weight.now) 0 (length even.entry.lists.from.now))) }
+    ensures { buffer.new ≡ put_fields buffer.old (limit_offset 0) (flat_map limit_fields (listed_plan (lent even.entry.lists)).limits) }
 {
     for i in 0..even.m() {
         put_limit(buffer, 24 + 12 * (i as usize), even.limit(i));
     }
 }
 
-// The links of lists, where a file's links begin after their limits.
+// The links, where a file's links begin after its limits.
 pub fn put_links(buffer: &mut [u8], even: EvenLists)
-    requires { link_offset (length even.lists.from.now) (length even.lists.act.now) ≤ length buffer.old }
-    ensures { buffer.new ≡ put_fields buffer.old (limit_offset (length even.entry.lists.from.now)) (flat_map link_fields (records (link_in even.entry.lists.act.now even.entry.lists.con.now even.entry.lists.short.now even.entry.lists.long.now) 0 (length even.entry.lists.act.now))) }
+    requires { size_of (lent even.lists) ≤ length buffer.old }
+    ensures { buffer.new ≡ put_fields buffer.old (limit_offset (length even.entry.lists.from.now)) (flat_map link_fields (listed_plan (lent even.entry.lists)).links) }
 {
     let first = 24 + 12 * (even.m() as usize);
     for i in 0..even.k() {

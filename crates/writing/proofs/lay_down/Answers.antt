@@ -5,5 +5,4 @@ use Rattle.writing.proofs.lay_down.Goals as goal
 
 pub returns : goal.returns
 returns c =
-    let head = rw (c.m.ensures, c.k.ensures) at c.put_head.ensures in
-    laid_down (lent c.args.even.lists) c.args.buffer.now c.requires head c.put_limits.ensures c.put_links.ensures
+    laid_down (lent c.args.even.lists) c.args.buffer.now c.requires c.put_head.ensures c.put_limits.ensures c.put_links.ensures
