@@ -13,15 +13,41 @@ ghost use Rattle.cases.specs.Paper.{paper};
 use console::{Numbers, read_full};
 use fields::{signed_at, unsigned_at};
 use post::Side;
-use std::fmt;
-use std::io;
+use std::{fmt, io};
 
 // What the documents say of the plans that they work through holds of the definitions that the calls are held to.
 fn worked_plans_hold()
     ensures { AllHold paper }
 {}
 
+// A plan's name, its file, and the limits to add to it.
+struct Entry<'a> {
+    name: &'a [u8],
+    file: &'a [u8],
+    limits: &'a [u8],
+}
+
+// The entries of an input, one behind the other; what does not fit ends it.
+#[derive(Drop)]
+struct Entries<'a>(&'a [u8]);
+
+impl<'a> Iterator for Entries<'a> {
+    type Item = Entry<'a>;
+
+    ghost remaining = { λ s. at_most (length s.0.now) };
+
+    fn next(&mut self) -> Option<Entry<'a>> {
+        let (head, behind) = self.0.split_at_checked(12)?;
+        let (name, behind) = behind.split_at_checked(unsigned_at(head, 0) as usize)?;
+        let (file, behind) = behind.split_at_checked(unsigned_at(head, 4) as usize)?;
+        let (limits, rest) = behind.split_at_checked(12 * (unsigned_at(head, 8) as usize))?;
+        self.0 = rest;
+        Some(Entry { name, file, limits })
+    }
+}
+
 // A cell or a time as it is printed: a number, or the mark by its name.
+#[derive(Clone, Copy)]
 struct Shown(i32);
 
 impl fmt::Display for Shown {
@@ -34,6 +60,7 @@ impl fmt::Display for Shown {
 }
 
 // Cells as they are printed, each behind a space.
+#[derive(Clone, Copy)]
 struct Row<'a>(&'a [i32]);
 
 impl fmt::Display for Row<'_> {
@@ -134,32 +161,6 @@ fn timed(rt: &impl Print, file: &[u8]) -> io::Result<()> {
         println!(rt; "times{}", Row(&times[..points(file)]))?;
     }
     Ok(())
-}
-
-// A plan's name, its file, and the limits to add to it.
-struct Entry<'a> {
-    name: &'a [u8],
-    file: &'a [u8],
-    limits: &'a [u8],
-}
-
-// The entries of an input, one behind the other; what does not fit ends it.
-#[derive(Drop)]
-struct Entries<'a>(&'a [u8]);
-
-impl<'a> Iterator for Entries<'a> {
-    type Item = Entry<'a>;
-
-    ghost remaining = { λ s. at_most (length s.0.now) };
-
-    fn next(&mut self) -> Option<Entry<'a>> {
-        let (head, behind) = self.0.split_at_checked(12)?;
-        let (name, behind) = behind.split_at_checked(unsigned_at(head, 0) as usize)?;
-        let (file, behind) = behind.split_at_checked(unsigned_at(head, 4) as usize)?;
-        let (limits, rest) = behind.split_at_checked(12 * (unsigned_at(head, 8) as usize))?;
-        self.0 = rest;
-        Some(Entry { name, file, limits })
-    }
 }
 
 // Prints the lines of each entry.

@@ -52,15 +52,17 @@ fn take(cells: &[u8], t: &mut [i32]) {
 
 // Prints a line for each entry.
 fn report(rt: &impl Print, all: &[u8]) -> io::Result<()> {
-    for entry in Entries(all) {
-        let mut strict = [0i32; 4096];
-        let mut open = [0i32; 4096];
-        take(entry.strict, &mut strict);
-        take(entry.open, &mut open);
-        let first = &strict[..entry.strict.len() / 4];
-        let second = &open[..entry.open.len() / 4];
-        let sound = Numbers(post::sound(entry.file));
-        let checked = Numbers(post::check(entry.file, first, second));
+    for Entry { file, strict, open } in Entries(all) {
+        let mut first = [0i32; 4096];
+        let mut second = [0i32; 4096];
+        take(strict, &mut first);
+        take(open, &mut second);
+        let sound = Numbers(post::sound(file));
+        let checked = Numbers(post::check(
+            file,
+            &first[..strict.len() / 4],
+            &second[..open.len() / 4],
+        ));
         println!(rt; "{sound} {checked}")?;
     }
     Ok(())

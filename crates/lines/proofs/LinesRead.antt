@@ -1,5 +1,5 @@
 -- Line i of six lists of fields: within the shortest, and past it. Assumes nothing.
-use mathlib.Core.Path.{◌≡◌, ◌∙◌}
+use mathlib.Core.Path.{◌≡◌}
 use mathlib.Core.List.{List}
 use Prim.Native.Nat.{ℕ, zero, ◌≤◌, ◌<◌}
 use lib.ListN.{get_or}
@@ -9,9 +9,9 @@ use Rattle.lines.specs.declared.Line.{Line}
 use Rattle.lines.specs.Reads.{no_line, line_count, listed}
 
 module _ (kinds froms tos : List ℕ) (weights : List ℤ) (firsts seconds : List ℕ) (i : ℕ) where
-  pub listed_past : (r : Line) → r ≡ no_line → line_count kinds froms tos weights firsts seconds ≤ i → r ≡ listed kinds froms tos weights firsts seconds i
+  pub listed_past : line_count kinds froms tos weights firsts seconds ≤ i → listed kinds froms tos weights firsts seconds i ≡ no_line
   unfolding listed
-  listed_past r e h = e ∙ rw (le-ltb i (line_count kinds froms tos weights firsts seconds) h)
+  listed_past h = rw (le-ltb i (line_count kinds froms tos weights firsts seconds) h)
 
   pub listed_within : i < line_count kinds froms tos weights firsts seconds
       → ◌≡◌ {A = Line} (record { kind = get_or kinds i 0; from = get_or froms i 0; to = get_or tos i 0; weight = get_or weights i (pos zero); first = get_or firsts i 0; second = get_or seconds i 0 }) (listed kinds froms tos weights firsts seconds i)

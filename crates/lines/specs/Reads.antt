@@ -3,6 +3,7 @@
 use Rattle.std.specs.Prelude.{cond, ◌≡◌, List, ℕ, zero, suc, min, ltb, length, get_or, set, ℤ, pos}
 use Rattle.chain.specs.Lines as chain
 use Rattle.lines.specs.declared.Line.{Line}
+use Rattle.lines.specs.declared.Columns.{Columns}
 
 -- a line struct as a line of the definitions
 abbrev pub line_of : Line → chain.Line
@@ -27,6 +28,13 @@ listed kinds froms tos weights firsts seconds i =
     cond (ltb i (line_count kinds froms tos weights firsts seconds))
     (record { kind = get_or kinds i 0; from = get_or froms i 0; to = get_or tos i 0; weight = get_or weights i (pos zero); first = get_or firsts i 0; second = get_or seconds i 0 })
     no_line
+
+-- the same of the six lists that the struct of them holds
+abbrev pub count_of : Columns → ℕ
+count_of c = line_count c.kinds.now c.froms.now c.tos.now c.weights.now c.firsts.now c.seconds.now
+
+abbrev pub line_in : Columns → ℕ → Line
+line_in c = listed c.kinds.now c.froms.now c.tos.now c.weights.now c.firsts.now c.seconds.now
 
 -- a list of lines with so many new ones from line 0 on, where `line i` is the new line i; "Lines past the list stay"
 abbrev pub filled : (ℕ → Line) → ℕ → List Line → List Line

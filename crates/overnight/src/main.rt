@@ -98,9 +98,9 @@ fn line(rt: &impl Print, stored: &[u8], held: &[u8]) -> io::Result<()>
 
 // Prints a line for each entry.
 fn report(rt: &impl Print, all: &[u8]) -> io::Result<()> {
-    for entry in Entries(all) {
-        rt.write_all(entry.name)?;
-        line(rt, entry.stored, entry.held)?;
+    for Entry { name, stored, held } in Entries(all) {
+        rt.write_all(name)?;
+        line(rt, stored, held)?;
     }
     Ok(())
 }

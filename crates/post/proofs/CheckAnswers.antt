@@ -29,7 +29,7 @@ lent_checked strict weak (before.Lent.short d r) e = calls.Checked.short_room d 
 lent_checked strict weak (before.Lent.enough d r w) e = absurd (e refl)
 
 -- past it, by the counts of the file, the rest of Check's answers
-module _ {s : List ℕ} {n m k : ℕ} (r : Ready s n m k) {strict weak : List ℤ} (ls : n * n ≤ length strict) (lw : n * n ≤ length weak) {b : Bool}
+module _ {s : List ℕ} {n m k : ℕ} (r : Ready s n m k) (strict weak : List ℤ) (ls : n * n ≤ length strict) (lw : n * n ≤ length weak) (b : Bool)
     (t : Decides b (Closed version1 (plan_of s) (table_of version1 n strict) (table_of version1 n weak))) where
   -- the plan's tables are those that were tested
   there : Decides b (Closed version1 (plan_of s) (table_of version1 (plan_of s).points strict) (table_of version1 (plan_of s).points weak))

@@ -3,6 +3,9 @@
 use mathlib.Core.Path.{◌≡◌, refl, sym, ap, ◌∙◌}
 use mathlib.Core.Bool.{Bool, true, false, cond, ◌||◌}
 use mathlib.Core.List.{List}
+use mathlib.Core.Logic.{⊎_elim}
+use Rattle.std.proofs.lemmas.List.{get_or_past}
+use Rattle.std.proofs.lemmas.Bool.{cases_lt}
 use Prim.Native.Nat.{ℕ, zero, suc, ◌+◌, ◌-◌, ◌≤◌, ◌<◌, min}
 use native.Mathlib.Nat.{lt_of_le_of_lt}
 use native.Mathlib.Omega.{arith}
@@ -15,23 +18,19 @@ use Rattle.rests.specs.Rests.{line_count, kind_at, is_join, is_rule, adds, withi
 
 -- ---- the kind of a line
 
-pub kind_within : (kinds firsts seconds : List ℕ) (i : ℕ) → i < length kinds → i < length firsts → i < length seconds
-    → get_or kinds i 0 ≡ kind_at kinds firsts seconds i
-unfolding kind_at
-kind_within kinds firsts seconds i a b c = rw (lt-ltb i (line_count kinds firsts seconds) (omega arith))
+module _ (kinds firsts seconds : List ℕ) (i : ℕ) where
+  pub kind_past : line_count kinds firsts seconds ≤ i → kind_at kinds firsts seconds i ≡ 0
+  unfolding kind_at
+  kind_past h = rw (le-ltb i (line_count kinds firsts seconds) h)
 
-kind_past : (kinds firsts seconds : List ℕ) (i : ℕ) → line_count kinds firsts seconds ≤ i → 0 ≡ kind_at kinds firsts seconds i
-unfolding kind_at
-kind_past kinds firsts seconds i h = rw (le-ltb i (line_count kinds firsts seconds) h)
-
-pub past_kinds : (kinds firsts seconds : List ℕ) (i : ℕ) → length kinds ≤ i → 0 ≡ kind_at kinds firsts seconds i
-past_kinds kinds firsts seconds i h = kind_past kinds firsts seconds i (omega arith)
-
-pub past_firsts : (kinds firsts seconds : List ℕ) (i : ℕ) → length firsts ≤ i → 0 ≡ kind_at kinds firsts seconds i
-past_firsts kinds firsts seconds i h = kind_past kinds firsts seconds i (omega arith)
-
-pub past_seconds : (kinds firsts seconds : List ℕ) (i : ℕ) → length seconds ≤ i → 0 ≡ kind_at kinds firsts seconds i
-past_seconds kinds firsts seconds i h = kind_past kinds firsts seconds i (omega arith)
+  -- past `kinds` too, where the list reads as 0
+  pub kind_within : i < length firsts → i < length seconds → kind_at kinds firsts seconds i ≡ get_or kinds i 0
+  unfolding kind_at
+  kind_within a b =
+      ⊎_elim
+      (λ l. rw (lt-ltb i (line_count kinds firsts seconds) (omega arith)))
+      (λ h. rw (le-ltb i (line_count kinds firsts seconds) (omega arith), get_or_past kinds i 0 h))
+      (cases_lt i (length kinds))
 
 -- a join line is no rule line
 join_no_rule_by : (kind : ℕ) (a b : Bool) → eqb kind 6 ≡ a → eqb kind 9 ≡ b → (a || b) ≡ true → is_rule kind ≡ false

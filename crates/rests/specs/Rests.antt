@@ -3,6 +3,7 @@
 -- It is said of any three lists of numbers, the kinds, first and second references of the lines from line 0. Assumes nothing: these are definitions.
 use Rattle.std.specs.Prelude.{Bool, cond, ◌||◌, List, ℕ, zero, suc, ◌+◌, min, eqb, ltb, length, get_or}
 use Rattle.chain.specs.Lines.{strict_join, by_lower, by_upper, open_join}
+use Rattle.rests.specs.declared.Lines.{Lines}
 
 -- The reason list ends with the shortest of the three.
 abbrev pub line_count : List ℕ → List ℕ → List ℕ → ℕ
@@ -47,3 +48,13 @@ joins_on kinds firsts seconds i = cond (is_join (kind_at kinds firsts seconds i)
 
 unfoldable pub rules_on : List ℕ → List ℕ → List ℕ → ℕ → ℕ
 rules_on kinds firsts seconds i = cond (is_rule (kind_at kinds firsts seconds i)) (rests_on kinds firsts seconds i) 0
+
+-- The same of the three lists that the struct of them holds.
+abbrev pub kind_in : Lines → ℕ → ℕ
+kind_in l = kind_at l.kinds.now l.firsts.now l.seconds.now
+
+abbrev pub joins_in : Lines → ℕ → ℕ
+joins_in l = joins_on l.kinds.now l.firsts.now l.seconds.now
+
+abbrev pub rules_in : Lines → ℕ → ℕ
+rules_in l = rules_on l.kinds.now l.firsts.now l.seconds.now

@@ -23,7 +23,10 @@ fn write_lines(
     requires { (count ≤ length kinds.now) × (count ≤ length froms.now) × (count ≤ length tos.now) × (count ≤ length weights.now) × (count ≤ length firsts.now) × (count ≤ length seconds.now) }
 {
     for i in 0..count {
-        println!(rt; "{} {} {} {} {} {}", kinds[i], froms[i], tos[i], weights[i], firsts[i], seconds[i])?;
+        println!(rt;
+            "{} {} {} {} {} {}",
+            kinds[i], froms[i], tos[i], weights[i], firsts[i], seconds[i]
+        )?;
     }
     Ok(())
 }

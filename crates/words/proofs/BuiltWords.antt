@@ -1,17 +1,15 @@
 -- Words that Reach built: their bits are where the strict table has numbers, so what the
 -- calls about points answer of them is what the table says, and after Judge it is where the plan's given edges lead. Assumes nothing.
 use mathlib.Core.Path.{◌≡◌, refl, sym, ap, ap₂, subst, ◌∙◌}
-use mathlib.Core.Logic.{◌≢◌}
-use mathlib.Core.Bool.{Bool, true, not, false≢true, ◌&&◌, and-false}
+use mathlib.Core.Logic.{◌≢◌, ⊎_elim}
+use mathlib.Core.Bool.{Bool, true, not, ◌&&◌}
 use mathlib.Core.List.{List}
 use Prim.Native.Nat.{ℕ, ◌≤◌, ◌<◌}
 use native.Mathlib.Omega.{arith}
-use native.Mathlib.Decide.{dec_le}
 use lib.Dec.{ltb}
 use lib.ListN.{length}
 use lib.IntN.{ℤ}
-use borrow.Author.Tests.{lt-ltb, le-ltb}
-use Rattle.rules.specs.Answers.{Answer, Done, ShortRoom, NotControllable}
+use Rattle.rules.specs.Answers.{Answer, Done}
 use Rattle.rules.specs.Plan.{version1}
 use Rattle.rules.specs.Cells.{Cell, mark, num, table_of}
 use Rattle.rules.specs.Calls.{Judged, Written}
@@ -21,35 +19,38 @@ use Rattle.cell.specs.Steps.{is_mark}
 use Rattle.plan.specs.Layout.{plan_of}
 use Rattle.plan.specs.File.{file_answer}
 use Rattle.plan.proofs.SoundFile.{good}
-use Rattle.words.specs.Sets.{Set, word_bits, how_many, Lowest, Highest, Numbers, bit, word_of}
-use Rattle.words.specs.Calls.{asked_answer, bounds, point_word, FirstWords, Reached}
+use Rattle.std.specs.Prelude.{Ok, Err}
+use Rattle.std.proofs.lemmas.Bool.{both_ways, cases_lt, lt-ltb}
+use Rattle.std.proofs.lemmas.Bool.Decides.{nat_tests}
+use Rattle.words.specs.Sets.{Set, word_bits, Lowest, Highest, Numbers, bit, word_of}
+use Rattle.words.specs.Calls.{Room, asked_answer, bounds, point_word, Reached}
 use Rattle.words.specs.Laws.{BitsOfBuilt, BoundedOfBuilt, BothOfBuilt, Leads, BitsOfJudged}
-use Rattle.words.proofs.BitsOfWords.{no_bit, word_lt, word_bit}
-use Rattle.words.proofs.BitCounts.{same_number}
-use Rattle.words.proofs.WordAnswers.{Room, room_done, done_asked}
-use Rattle.words.proofs.WordsOnce.{clash, not_done, number_below}
+use Rattle.words.proofs.BitsOfWords.{no_bit, word_lt, word_fits, word_bit, word_has}
+use Rattle.words.proofs.BitCounts.{ones_word, ones_number}
+use Rattle.words.proofs.WordAnswers.{room_done, done_asked}
 
--- ---- the bits
+-- ---- of built words
 
--- what Reach did where it answers Done
-pub record Build (n : ℕ) (strict : List ℤ) (words words' : List ℕ) : Type 0 where
-  pub room : Room n (length strict) (length words)
-  pub words_are : FirstWords n (λ x. word_of n (bounds n strict x)) words words'
+module _ {n : ℕ} {strict : List ℤ} {words words' : List ℕ} (r : Reached n strict words Done words') where
+  pub built_room : Room n (length strict) (length words)
+  built_room = room_done (sym r.answer_is)
 
-pub reached_done : {n : ℕ} {strict : List ℤ} {words words' : List ℕ} {a : Answer} → Reached n strict words a words' → a ≡ Done
-    → Build n strict words words'
-reached_done (Reached.refused e d) i = absurd (d i)
-reached_done {n} {strict} {words} (Reached.built e f) i = record { room = room_done e; words_are = f }
+  pub built_word : (x : ℕ) → x < n → point_word words' x ≡ word_of n (bounds n strict x)
+  built_word = r.built.first
 
--- the word of a set of points below n has the bits of those
-pub word_bits_lem : (n : ℕ) (s : Set) (y : ℕ) → bit (word_of n s) y ≡ (ltb y n && s y)
-word_bits_lem n s y = by (dec_le n y)
-  where
-    by : Dec (n ≤ y) → bit (word_of n s) y ≡ (ltb y n && s y)
-    by (yes h) = no_bit n (word_lt n s) y h ∙ ap (λ (t : Bool). t && s y) (sym (le-ltb y n h))
-    by (no h) =
-        let l : y < n = omega arith in
-        word_bit n s y l ∙ ap (λ (t : Bool). t && s y) (sym (lt-ltb y n l))
+  -- a call about points below n is answered
+  pub built_asked : {x y : ℕ} → x < n → y < n → asked_answer n x y (length words') ≡ Done
+  built_asked hx hy =
+      done_asked (record {
+        some = built_room.some;
+        few = built_room.few;
+        first = hx;
+        second = hy;
+        room = rw r.built.length_same built_room.room;
+      })
+
+pub bits_of_built : BitsOfBuilt
+bits_of_built n strict words words' r x y h = ap (λ (w : ℕ). bit w y) (built_word r x h) ∙ word_has n (bounds n strict x) y
 
 -- ---- the numbers
 
@@ -57,11 +58,7 @@ word_bits_lem n s y = by (dec_le n y)
 module _ (n : ℕ) (s : Set) (few : n ≤ word_bits) where
   -- a bit is a point below n
   bit_below : (y : ℕ) → bit (word_of n s) y ≡ true → y < n
-  bit_below y e = by (dec_le n y)
-    where
-      by : Dec (n ≤ y) → y < n
-      by (yes h) = absurd (clash e (no_bit n (word_lt n s) y h))
-      by (no h) = omega arith
+  bit_below y e = ⊎_elim (λ l. l) (λ l. absurd (both_ways (bit (word_of n s) y) (no_bit n (word_lt n s) y l) e)) (cases_lt y n)
 
   bit_point : {b : Bool} (y : ℕ) → y < n → bit (word_of n s) y ≡ b → s y ≡ b
   bit_point y h e = sym (word_bit n s y h) ∙ e
@@ -78,70 +75,40 @@ module _ (n : ℕ) (s : Set) (few : n ≤ word_bits) where
       Highest.highest l (bit_point y l e) (λ z k j. bit_point z j (b z k (omega arith)))
   highest_point (Highest.none b) = Highest.none (λ z h. bit_point z h (b z (omega arith)))
 
-  number_points : how_many word_bits (bit (word_of n s)) ≡ how_many n s
-  number_points =
-      number_below n word_bits (bit (word_of n s)) few (λ z h k. no_bit n (word_lt n s) z h) ∙ same_number n (bit (word_of n s)) s (word_bit n s)
-
   pub numbers_points : {number low high : ℕ} → Numbers word_bits (bit (word_of n s)) number low high → Numbers n s number low high
   numbers_points a = record {
-    number_is = a.number_is ∙ number_points;
+    number_is = a.number_is ∙ sym (ones_number word_bits (word_of n s) (word_fits n s few)) ∙ ones_word n s;
     lowest_is = lowest_point a.lowest_is;
     highest_is = highest_point a.highest_is;
   }
 
--- ---- of built words
-
-pub built_word : {n : ℕ} {strict : List ℤ} {words words' : List ℕ} → Build n strict words words' → (x : ℕ) → x < n
-    → point_word words' x ≡ word_of n (bounds n strict x)
-built_word b x h = b.words_are.first x h
-
--- a call about points below n is answered
-pub built_asked : {n : ℕ} {strict : List ℤ} {words words' : List ℕ} → Build n strict words words' → {x y : ℕ} → x < n → y < n
-    → asked_answer n x y (length words') ≡ Done
-built_asked b hx hy =
-    done_asked (record {
-      some = b.room.some;
-      few = b.room.few;
-      first = hx;
-      second = hy;
-      room = rw b.words_are.length_same b.room.room;
-    })
-
-pub bits_of_built : BitsOfBuilt
-bits_of_built n strict words words' r x y h =
-    ap (λ (w : ℕ). bit w y) (built_word (reached_done r refl) x h) ∙ word_bits_lem n (bounds n strict x) y
-
 pub bounded_of_built : BoundedOfBuilt
-bounded_of_built n strict words words' x r g h a =
-    let b : Build n strict words words' = reached_done g refl in
-    let d : r.answer ≡ Done = a.answer_is ∙ built_asked b h h in (
-      d,
-      numbers_points n (bounds n strict x) b.room.few
-          (subst (λ (w : ℕ). Numbers word_bits (bit w) r.number r.lowest r.highest) (built_word b x h) (a.numbers d)),
-    )
+bounded_of_built n strict words words' x (Ok e) g h a = (
+  e,
+  refl,
+  numbers_points n (bounds n strict x) (built_room g).few
+      (subst (λ (w : ℕ). Numbers word_bits (bit w) e.number e.lowest e.highest) (built_word g x h) a.1),
+)
+bounded_of_built n strict words words' x (Err r) g h a = let d = built_asked g h h in absurd (cc)
 
 -- the word that both points' words make has the bits of both, and of no point from n on
 both_bits : {n : ℕ} (s t : Set) → n ≤ word_bits → (z : ℕ)
     → bit (word_of word_bits (λ y. bit (word_of n s) y && bit (word_of n t) y)) z ≡ (ltb z n && (s z && t z))
 both_bits {n} s t few z =
-    word_bits_lem word_bits (λ y. bit (word_of n s) y && bit (word_of n t) y) z
-    ∙ ap₂ (λ (a b : Bool). ltb z word_bits && (a && b)) (word_bits_lem n s z) (word_bits_lem n t z)
-    ∙ by (dec_le n z)
-  where
-    by : Dec (n ≤ z) → (ltb z word_bits && ((ltb z n && s z) && (ltb z n && t z))) ≡ (ltb z n && (s z && t z))
-    by (yes h) = rw (le-ltb z n h, and-false (ltb z word_bits))
-    by (no h) = rw (lt-ltb z n (omega arith), lt-ltb z word_bits (omega arith))
+    word_has word_bits (λ y. bit (word_of n s) y && bit (word_of n t) y) z
+    ∙ ap₂ (λ (a b : Bool). ltb z word_bits && (a && b)) (word_has n s z) (word_has n t z)
+    ∙ grind (arith, nat_tests)
 
 pub both_of_built : BothOfBuilt
-both_of_built n strict words words' x y r g hx hy a =
-    let b : Build n strict words words' = reached_done g refl in
-    let d : r.answer ≡ Done = a.answer_is ∙ built_asked b hx hy in (
-      d,
-      λ z.
-          ap (λ (w : ℕ). bit w z) (a.word_is d)
-          ∙ ap₂ (λ (u v : ℕ). bit (word_of word_bits (λ y. bit u y && bit v y)) z) (built_word b x hx) (built_word b y hy)
-          ∙ both_bits (bounds n strict x) (bounds n strict y) b.room.few z,
-    )
+both_of_built n strict words words' x y (Ok w) g hx hy a = (
+  w,
+  refl,
+  λ z.
+      ap (λ (v : ℕ). bit v z) a.1
+      ∙ ap₂ (λ (u v : ℕ). bit (word_of word_bits (λ y. bit u y && bit v y)) z) (built_word g x hx) (built_word g y hy)
+      ∙ both_bits (bounds n strict x) (bounds n strict y) (built_room g).few z,
+)
+both_of_built n strict words words' x y (Err r) g hx hy a = let d = built_asked g hx hy in absurd (cc)
 
 -- ---- after Judge
 
@@ -150,7 +117,7 @@ pub data Numbered (c : Cell) : Type 0 where
   numbered : {v : ℤ} → c ≡ num v → Numbered c
 
 pub bounds_number : (c : Cell) → not (is_mark c) ≡ true → Numbered c
-bounds_number mark e = absurd (false≢true e)
+bounds_number mark e = absurd (cc)
 bounds_number (num v) e = numbered refl
 
 pub number_bounds : (c : Cell) → c ≢ mark → not (is_mark c) ≡ true
@@ -165,8 +132,8 @@ record Judgement (s : List ℕ) (strict weak strict' weak' : List ℤ) : Type 0 
 judged_done : {s : List ℕ} {strict weak strict' weak' : List ℤ} {a : Answer} → Judged version1 (file_answer s) (plan_of s) strict weak a strict' weak'
     → a ≡ Done → Judgement s strict weak strict' weak'
 judged_done (Judged.bad_file d) i = absurd (d i)
-judged_done (Judged.short_room e q) i = absurd (not_done ShortRoom refl i)
-judged_done (Judged.uncontrollable e q u m) i = absurd (not_done NotControllable refl i)
+judged_done (Judged.short_room e q) i = absurd (cc)
+judged_done (Judged.uncontrollable e q u m) i = absurd (cc)
 judged_done (Judged.judged e q w) i = record { sound = e; written = w }
 
 pub bits_of_judged : BitsOfJudged

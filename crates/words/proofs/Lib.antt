@@ -1,9 +1,7 @@
--- What the walks through the code cite, and the laws of the four calls together.
+-- What the functions' proofs cite, and the laws of the four calls together.
 mod BitsOfWords
 mod BitCounts
 mod WordAnswers
-mod WordsWritten
-mod HandedOut
 mod WordsOnce
 mod BuiltWords
 mod UpdatedWords

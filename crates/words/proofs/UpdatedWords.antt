@@ -7,28 +7,13 @@ use mathlib.Core.List.{List}
 use Prim.Native.Nat.{ℕ, ◌^◌, ◌<◌}
 use native.Mathlib.Omega.{arith}
 use lib.ListN.{length}
-use Rattle.rules.specs.Answers.{Answer, Done}
+use Rattle.std.specs.Prelude.{Ok, Err}
 use Rattle.rules.proofs.Lists.{same_parts}
 use Rattle.words.specs.Sets.{word_bits, bit, word_of}
-use Rattle.words.specs.Calls.{asked_answer, point_word, taking, FirstWords, ReachAdded}
+use Rattle.words.specs.Calls.{Asked, asked_answer, point_word, taking}
 use Rattle.words.specs.Laws.{UpdatedTwice, UpdatedInAnyOrder}
 use Rattle.words.proofs.BitsOfWords.{same_bits, word_lt, word_bit}
-use Rattle.words.proofs.WordAnswers.{Asked, asked_done}
-
--- ---- what Update did where it answers Done
-
-pub record Update (n x y : ℕ) (words words' : List ℕ) : Type 0 where
-  pub asked : Asked n x y (length words)
-  pub words_are : FirstWords n (λ i. taking x (point_word words y) (point_word words i)) words words'
-
-pub update_done : {n x y : ℕ} {words words' : List ℕ} {a : Answer} → ReachAdded n x y words a words' → a ≡ Done → Update n x y words words'
-update_done (ReachAdded.refused e d) i = absurd (d i)
-update_done {n} {x} {y} {words} (ReachAdded.updated e f) i = record { asked = asked_done e; words_are = f }
-
--- what it answers, whether or not it is Done
-pub update_answer : {n x y : ℕ} {words words' : List ℕ} {a : Answer} → ReachAdded n x y words a words' → a ≡ asked_answer n x y (length words)
-update_answer (ReachAdded.refused e d) = e
-update_answer (ReachAdded.updated e f) = sym e
+use Rattle.words.proofs.WordAnswers.{asked_done}
 
 -- ---- one word
 
@@ -70,13 +55,9 @@ two_bits x x' u v w z hx hz =
 
 -- ---- the same update twice
 
--- a table of the tests: whether the word has the bit and the one asked for, and the same of the word taken
+-- the tests: whether the word has the bit and the one asked for, and the same of the word taken
 twice_table : (a b c d : Bool) → (a || (b && c) || ((b || (b && d)) && (c || (d && c)))) ≡ (a || (b && c))
-twice_table true b c d = refl
-twice_table false true true d = refl
-twice_table false true false true = refl
-twice_table false true false false = refl
-twice_table false false c d = refl
+twice_table a b c d = grind arith
 
 word_twice : (x u w : ℕ) → x < word_bits → taking x (taking x u u) (taking x u w) ≡ taking x u w
 word_twice x u w hx = by (bit w x) refl
@@ -89,46 +70,29 @@ word_twice x u w hx = by (bit w x) refl
     by false e = ap (taking x (taking x u u)) (left_alone x u w e) ∙ left_alone x (taking x u u) w e ∙ sym (left_alone x u w e)
 
 pub updated_twice : UpdatedTwice
-updated_twice n x y words words₁ words₂ a b (ReachAdded.refused e d) (ReachAdded.refused f g) = (f ∙ sym e, refl)
-updated_twice n x y words words₁ words₂ a b (ReachAdded.refused e d) (ReachAdded.updated f g) = absurd (d (e ∙ f))
-updated_twice n x y words words₁ words₂ a b (ReachAdded.updated e d) (ReachAdded.refused f g) =
-    absurd (g (f ∙ ap (asked_answer n x y) d.length_same ∙ e))
-updated_twice n x y words words₁ words₂ a b (ReachAdded.updated e d) (ReachAdded.updated f g) =
-    let q : Asked n x y (length words) = asked_done e in
-    let hx : x < word_bits = omega (arith, q.first, q.few) in (
+updated_twice n x y words words₁ words₂ (Ok done) (Ok done') d g =
+    let q : Asked n x y (length words) = asked_done (sym d.answer_is) in (
       refl,
-      same_parts 0 n words₂ words₁ g.length_same g.beyond_same
+      same_parts 0 n words₂ words₁ g.updated.length_same g.updated.beyond_same
           (λ i h.
-          g.first i h
-          ∙ ap₂ (taking x) (d.first y q.second) (d.first i h)
-          ∙ word_twice x (point_word words y) (point_word words i) hx
-          ∙ sym (d.first i h)),
+          g.updated.first i h
+          ∙ ap₂ (taking x) (d.updated.first y q.second) (d.updated.first i h)
+          ∙ word_twice x (point_word words y) (point_word words i) (omega (arith, q.first, q.few))
+          ∙ sym (d.updated.first i h)),
     )
+updated_twice n x y words words₁ words₂ (Ok done) (Err r) d g =
+    let e = ap (asked_answer n x y) d.updated.length_same in absurd (cc)
+updated_twice n x y words words₁ words₂ (Err r) b d g =
+    let e = ap (λ (w : List ℕ). asked_answer n x y (length w)) d.refused in
+    let same : b ≡ Err r = cc in
+    (same, rw same at g.refused)
 
 -- ---- two updates in either order
 
--- a table of the tests: of the word whether it has the bit, the one the first update asks for and the second's; the same of the words taken
+-- the tests: of the word whether it has the bit, the one the first update asks for and the second's; the same of the words taken
 order_table : (a b c d e f g : Bool)
     → (a || (b && c) || ((d || (b && e)) && (f || (g && c)))) ≡ (a || (d && f) || ((b || (d && g)) && (c || (e && f))))
-order_table true b c d e f g = refl
-order_table false false c false e f g = refl
-order_table false true true false e f g = refl
-order_table false true false false false f g = refl
-order_table false true false false true true g = refl
-order_table false true false false true false true = refl
-order_table false true false false true false false = refl
-order_table false false c true e true g = refl
-order_table false false c true e false false = refl
-order_table false false true true e false true = refl
-order_table false false false true true false true = refl
-order_table false false false true false false true = refl
-order_table false true true true e true g = refl
-order_table false true true true e false g = refl
-order_table false true false true e true g = refl
-order_table false true false true true false true = refl
-order_table false true false true true false false = refl
-order_table false true false true false false true = refl
-order_table false true false true false false false = refl
+order_table a b c d e f g = grind arith
 
 module _ (x x' u v w : ℕ) (hx : x < word_bits) (hx' : x' < word_bits) where
   -- word w where x's update comes first, and where it comes second
@@ -162,24 +126,14 @@ module _ (x x' u v w : ℕ) (hx : x < word_bits) (hx' : x' < word_bits) where
 
 pub updated_in_any_order : UpdatedInAnyOrder
 updated_in_any_order n x y x' y' words one two one_two two_one a b c d =
-    let p : Update n x y words one = update_done a refl in
-    let q : Update n x' y' one one_two = update_done b refl in
-    let r : Update n x' y' words two = update_done c refl in
-    let s : Update n x y two two_one = update_done d refl in
-    let hy : y < n = p.asked.second in
-    let hy' : y' < n = r.asked.second in
-    let hx : x < word_bits = omega (arith, p.asked.first, p.asked.few) in
-    let hx' : x' < word_bits = omega (arith, r.asked.first, r.asked.few) in
+    let p : Asked n x y (length words) = asked_done (sym a.answer_is) in
+    let r : Asked n x' y' (length words) = asked_done (sym c.answer_is) in
     same_parts 0 n one_two two_one
-    (q.words_are.length_same ∙ p.words_are.length_same ∙ sym r.words_are.length_same ∙ sym s.words_are.length_same)
+    (b.updated.length_same ∙ a.updated.length_same ∙ sym c.updated.length_same ∙ sym d.updated.length_same)
+    (λ i h. b.updated.beyond_same i h ∙ a.updated.beyond_same i h ∙ sym (c.updated.beyond_same i h) ∙ sym (d.updated.beyond_same i h))
     (λ i h.
-    q.words_are.beyond_same i h
-    ∙ p.words_are.beyond_same i h
-    ∙ sym (r.words_are.beyond_same i h)
-    ∙ sym (s.words_are.beyond_same i h))
-    (λ i h.
-    q.words_are.first i h
-    ∙ ap₂ (taking x') (p.words_are.first y' hy') (p.words_are.first i h)
-    ∙ either_order x x' (point_word words y) (point_word words y') (point_word words i) hx hx'
-    ∙ sym (ap₂ (taking x) (r.words_are.first y hy) (r.words_are.first i h))
-    ∙ sym (s.words_are.first i h))
+    b.updated.first i h
+    ∙ ap₂ (taking x') (a.updated.first y' r.second) (a.updated.first i h)
+    ∙ either_order x x' (point_word words y) (point_word words y') (point_word words i) (omega (arith, p.first, p.few)) (omega (arith, r.first, r.few))
+    ∙ sym (ap₂ (taking x) (c.updated.first y p.second) (c.updated.first i h))
+    ∙ sym (d.updated.first i h))

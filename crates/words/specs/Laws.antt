@@ -1,6 +1,7 @@
 -- Document 02, item 6: what is promised of the calls on reach words together, over their statements alone; and that two answers are equal. Assumes nothing.
-use Rattle.std.specs.Prelude.{◌≡◌, ◌↔◌, true, ◌&&◌, List, ℕ, ◌<◌, ltb, ℤ}
+use Rattle.std.specs.Prelude.{◌≡◌, ◌↔◌, true, ◌&&◌, List, ℕ, ◌<◌, ltb, ℤ, Result, Ok}
 use Rattle.rules.specs.Answers.{Answer, Done}
+use Rattle.rules.specs.declared.Refusal.{Refusal}
 use Rattle.rules.specs.Plan.{Limit, Plan, version1}
 use Rattle.rules.specs.Edges.{Given}
 use Rattle.rules.specs.Walks.{Walk}
@@ -8,7 +9,6 @@ use Rattle.rules.specs.Calls.{Judged, Added}
 use Rattle.plan.specs.Layout.{plan_of}
 use Rattle.plan.specs.File.{file_answer, add_answer}
 use Rattle.words.specs.declared.Extent.{Extent}
-use Rattle.words.specs.declared.Common.{Common}
 use Rattle.words.specs.Sets.{Numbers, word_bits, bit}
 use Rattle.words.specs.Calls.{bounds, point_word, Reached, BoundedIs, BothIs, ReachAdded}
 use Rattle.words.specs.Handed.{BoundedInto, BothInto}
@@ -26,14 +26,14 @@ BitsOfBuilt =
 -- "the number of bounded points, the lowest and the highest bounded point": of built words they are those of the points whose cell is a number
 abbrev pub BoundedOfBuilt : Type 0
 BoundedOfBuilt =
-    (n : ℕ) (strict : List ℤ) (words words' : List ℕ) (x : ℕ) (r : Extent) → Reached n strict words Done words' → x < n → BoundedIs n words' x r
-    → (r.answer ≡ Done) × Numbers n (bounds n strict x) r.number r.lowest r.highest
+    (n : ℕ) (strict : List ℤ) (words words' : List ℕ) (x : ℕ) (r : Result Extent Refusal) → Reached n strict words Done words' → x < n
+    → BoundedIs n words' x r → (e : Extent) × (r ≡ Ok e) × Numbers n (bounds n strict x) e.number e.lowest e.highest
 
 -- "the points that two points both bound": of built words
 abbrev pub BothOfBuilt : Type 0
 BothOfBuilt =
-    (n : ℕ) (strict : List ℤ) (words words' : List ℕ) (x y : ℕ) (r : Common) → Reached n strict words Done words' → x < n → y < n
-    → BothIs n words' x y r → (r.answer ≡ Done) × ((z : ℕ) → bit r.word z ≡ (ltb z n && (bounds n strict x z && bounds n strict y z)))
+    (n : ℕ) (strict : List ℤ) (words words' : List ℕ) (x y : ℕ) (r : Result ℕ Refusal) → Reached n strict words Done words' → x < n → y < n
+    → BothIs n words' x y r → (w : ℕ) × (r ≡ Ok w) × ((z : ℕ) → bit w z ≡ (ltb z n && (bounds n strict x z && bounds n strict y z)))
 
 -- there is a walk over given edges
 abbrev pub Leads : Plan → ℕ → ℕ → Type 0
@@ -85,10 +85,10 @@ ReachedOnce =
     → (a ≡ b) × (words₁ ≡ words₂)
 
 abbrev pub BoundedOnce : Type 0
-BoundedOnce = (n : ℕ) (words : List ℕ) (x : ℕ) (r q : Extent) → BoundedIs n words x r → BoundedIs n words x q → r ≡ q
+BoundedOnce = (n : ℕ) (words : List ℕ) (x : ℕ) (r q : Result Extent Refusal) → BoundedIs n words x r → BoundedIs n words x q → r ≡ q
 
 abbrev pub BothOnce : Type 0
-BothOnce = (n : ℕ) (words : List ℕ) (x y : ℕ) (r q : Common) → BothIs n words x y r → BothIs n words x y q → r ≡ q
+BothOnce = (n : ℕ) (words : List ℕ) (x y : ℕ) (r q : Result ℕ Refusal) → BothIs n words x y r → BothIs n words x y q → r ≡ q
 
 abbrev pub ReachAddedOnce : Type 0
 ReachAddedOnce =

@@ -1,5 +1,6 @@
 -- Document 02, item 6: a set of points, how many it has, its lowest and its highest, and the 64-bit word that holds it. Assumes nothing.
-use Rattle.std.specs.Prelude.{◌≡◌, Bool, true, false, cond, ℕ, zero, suc, ◌+◌, ◌/◌, ◌%◌, ◌^◌, ◌<◌, eqb}
+use Rattle.std.specs.Prelude.{◌≡◌, Bool, true, false, cond, ℕ, zero, suc, ◌+◌, ◌^◌, ◌<◌, ◌==◌}
+use Rattle.std.specs.Int.{bit_at}
 
 -- a set of points: whether a point is in it
 abbrev pub Set : Type 0
@@ -32,7 +33,7 @@ pub record Numbers (k : ℕ) (s : Set) (number low high : ℕ) : Type 0 where
 
 -- "bit Y of word X is set": the set that a word holds
 unfoldable pub bit : ℕ → Set
-bit w y = eqb (w / 2 ^ y % 2) 1
+bit w y = bit_at w y == 1
 
 -- the word that holds the points of a set that are below k: 2 ^ y for each such point y
 unfoldable pub word_of : ℕ → Set → ℕ

@@ -1,68 +1,50 @@
 // What words say of one point and of two.
-ghost use Rattle.std.specs.Prelude.{◌≡◌};
-ghost use Rattle.words.specs.Sets.{Numbers, Highest, word_bits, bit};
-ghost use Rattle.words.specs.Calls.{asked_answer, BoundedIs, BothIs};
+ghost use Rattle.std.specs.Prelude.{◌≡◌, OnOk};
+ghost use Rattle.words.specs.Sets.{Numbers, word_bits, bit};
+ghost use Rattle.words.specs.Calls.{asked_answer, Asked, BoundedIs, BothIs};
 
-use crate::{Common, Extent};
-use answers::accepted;
-use rules::Answer;
+use crate::Extent;
+use rules::{Answer, Refusal};
 
 // What comes before the work of a call about two points: n and the points, then room for n words.
+#[tactic(auto, unfolding(crate::specs::Calls::asked_answer, rules::specs::Plan::version1))]
 pub fn asked(n: u32, x: u32, y: u32, words: usize) -> Answer
-    ensures { result ≡ asked_answer n x y words }
+    ensures answer { result ≡ asked_answer n x y words }
+    ensures passed { OnOk result (Asked n x y words) }
 {
-    if !((1 <= n) & (n <= 64) & (x < n) & (y < n)) {
-        return Answer::BadPoints;
+    if !(1..=64).contains(&n) || x >= n || y >= n {
+        return Err(Refusal::BadPoints);
     }
     if words < n as usize {
-        return Answer::ShortRoom;
+        return Err(Refusal::ShortRoom);
     }
-    Answer::Done
+    Ok(())
 }
 
-// The highest bit of a word; 64 where it has none.
-fn highest(w: u64) -> u32
-    ensures { Highest word_bits (bit w) result }
-{
-    if w == 0 {
-        return 64;
-    }
-    63 - u64::leading_zeros(w)
-}
-
-// The numbers of a word, beside an answer.
-fn numbers(answer: Answer, w: u64) -> Extent
-    ensures { (result.answer ≡ answer) × Numbers word_bits (bit w) result.number result.lowest result.highest }
+// The numbers of a word.
+#[tactic(auto, using(crate::proofs::BitCounts::counts))]
+fn extent(w: u64) -> Extent
+    ensures { Numbers word_bits (bit w) result.number result.lowest result.highest }
 {
     Extent {
-        answer: answer,
-        number: u64::count_ones(w),
-        lowest: u64::trailing_zeros(w),
-        highest: highest(w),
+        number: w.count_ones(),
+        lowest: w.trailing_zeros(),
+        highest: if w == 0 { 64 } else { 63 - w.leading_zeros() },
     }
 }
 
 // How many points x bounds, the lowest and the highest.
-pub fn bounded(n: u32, words: &[u64], x: u32) -> Extent
+pub fn bounded(n: u32, words: &[u64], x: u32) -> Result<Extent, Refusal>
     ensures { BoundedIs n words.now x result }
 {
-    let a = asked(n, x, x, words.len());
-    if !accepted(a) {
-        return numbers(a, 0);
-    }
-    numbers(a, words[x as usize])
+    asked(n, x, x, words.len())?;
+    Ok(extent(words[x as usize]))
 }
 
 // The points that x and y both bound.
-pub fn both(n: u32, words: &[u64], x: u32, y: u32) -> Common
+pub fn both(n: u32, words: &[u64], x: u32, y: u32) -> Result<u64, Refusal>
     ensures { BothIs n words.now x y result }
 {
-    let a = asked(n, x, y, words.len());
-    if !accepted(a) {
-        return Common { answer: a, word: 0 };
-    }
-    Common {
-        answer: a,
-        word: words[x as usize] & words[y as usize],
-    }
+    asked(n, x, y, words.len())?;
+    Ok(words[x as usize] & words[y as usize])
 }

@@ -10,21 +10,12 @@ mod updating;
 pub use asking::{both, bounded};
 pub use building::reach;
 pub use handing::{both_into, bounded_into};
-use rules::Answer;
 pub use updating::reach_add;
 
-// What `bounded` answers: how many points, the lowest and the highest; 64 stands for no point.
-#[derive(Clone, Copy)]
+// What `bounded` finds: how many points, the lowest and the highest; 64 stands for no point.
+#[derive(Clone, Copy, Debug, PartialEq, Eq)]
 pub struct Extent {
-    pub answer: Answer,
     pub number: u32,
     pub lowest: u32,
     pub highest: u32,
-}
-
-// What `both` answers: the points as a word.
-#[derive(Clone, Copy)]
-pub struct Common {
-    pub answer: Answer,
-    pub word: u64,
 }

@@ -1,14 +1,15 @@
--- What `write` answers, from what the calls ensure: l are the lists, a, b and c answers.
+-- What `write` answers, from what the calls ensure: l are the lists.
 -- Assumes nothing.
 use mathlib.Core.Path.{◌≡◌, refl, sym, ap, ◌∙◌}
-use mathlib.Core.Bool.{Bool, true, false, ◌&&◌}
+use mathlib.Core.Bool.{Bool, true, false}
 use mathlib.Core.List.{List, [], ◌++◌, flat_map}
 use Prim.Native.Nat.{ℕ, ◌+◌, ◌*◌, ◌≤◌, ◌<◌}
 use native.Mathlib.Omega.{arith}
-use lib.Dec.{leb, eqb}
+use Rattle.std.proofs.lemmas.Bool.Decides.{nat_tests}
+use lib.Dec.{leb}
 use lib.ListN.{length, drop, length-append}
-use borrow.Author.Tests.{eqb-true, le-leb, lt-leb}
-use Rattle.rules.specs.Plan.{Limit, Link, version1}
+use borrow.Author.Tests.{le-leb, lt-leb}
+use Rattle.rules.specs.Plan.{version1}
 use Rattle.std.specs.Prelude.{Err}
 use Rattle.rules.specs.Answers.{Answer, Done, ShortRoom}
 use Rattle.rules.specs.declared.Refusal.{Refusal}
@@ -17,7 +18,6 @@ use Rattle.answers.proofs.CodeZero.{not_done}
 use Rattle.plan.specs.Layout.{limit_offset, records, head_fields, limit_fields, link_fields, plan_fields, plan_bytes}
 use Rattle.plan.specs.File.{counts_answer, limits_answer, links_answer, front_answer, plan_answer}
 use Rattle.plan.proofs.Records.{records_length}
-use Rattle.plan.proofs.TestsMade.{both}
 use Rattle.plan.proofs.TestsDecide.{counts_ok}
 use Rattle.plan.proofs.Stretches.{flat_length}
 use Rattle.plan.proofs.BytesOfPlans.{bytes_size}
@@ -30,72 +30,47 @@ use Rattle.writing.proofs.FieldsPut.{more, put_start}
 -- ---- codes 3 to 8
 
 module _ (l : Lists) where
-  n : ℕ
-  n = l.points
-
-  m : ℕ
-  m = length l.from
-
-  k : ℕ
-  k = length l.act
-
   -- codes 3, 4 and 5 of the lists, 6, and 7 and 8
-  counts : Answer
-  counts = counts_answer version1 n m k (even_lists l)
+  abbrev counts : Answer
+  counts = counts_answer version1 l.points (length l.from) (length l.act) (even_lists l)
 
-  limits : List Limit
-  limits = records (limit_in l.from l.to l.weight) 0 m
+  abbrev limits : Answer
+  limits = limits_answer version1 l.points 0 (records (limit_in l.from l.to l.weight) 0 (length l.from))
 
-  links : List Link
-  links = records (link_in l.act l.con l.short l.long) 0 k
+  abbrev links : Answer
+  links = links_answer version1 l.points (length l.from) 0 [] (records (link_in l.act l.con l.short l.long) 0 (length l.act))
 
-  parts : lists_answer l ≡ ((counts then limits_answer version1 n 0 limits) then links_answer version1 n m 0 [] links)
-  unfolding plan_answer front_answer listed_plan n m k counts limits links
-  parts = rw (records_length (limit_in l.from l.to l.weight) 0 m, records_length (link_in l.act l.con l.short l.long) 0 k)
+  parts : lists_answer l ≡ ((counts then limits) then links)
+  unfolding plan_answer front_answer listed_plan
+  parts = rw (records_length (limit_in l.from l.to l.weight) 0 (length l.from), records_length (link_in l.act l.con l.short l.long) 0 (length l.act))
 
-  ok : counts ≡ Done → ListsOk l
-  unfolding counts n m k
-  ok e =
-      let c = counts_ok version1 n m k (even_lists l) e in
-      let to = eqb (length l.to) m in
-      let weight = eqb (length l.weight) m in
-      let con = eqb (length l.con) k in
-      let short = eqb (length l.short) k in
-      let p = both (to && weight && con && short) (eqb (length l.long) k) c.as_laid in
-      let q = both (to && weight && con) short p.0 in
-      let r = both (to && weight) con q.0 in
-      let s = both to weight r.0 in
-      record {
-        limits = c.limits;
-        links = c.links;
-        to = eqb-true (length l.to) m s.0;
-        weight = eqb-true (length l.weight) m s.1;
-        con = eqb-true (length l.con) k r.1;
-        short = eqb-true (length l.short) k q.1;
-        long = eqb-true (length l.long) k p.1;
-      }
-
+  -- a, b and c are what the calls answer
   module _ {laid : Bool} (g : laid ≡ even_lists l) {a : Answer} (p : a ≡ counts_answer version1 l.points (length l.from) (length l.act) laid) where
     counted : counts ≡ a
-    unfolding counts n m k
-    counted = sym (p ∙ ap (counts_answer version1 n m k) g)
+    counted = rw (p, g)
 
     pub counts_stop : {r : Refusal} → a ≡ Err r → lists_answer l ≡ Err r
     counts_stop u = rw (parts, counted, u)
 
     module _ (u : a ≡ Done) where
       pub counts_passed : ListsOk l
-      counts_passed = ok (counted ∙ u)
+      counts_passed =
+          let c = counts_ok version1 l.points (length l.from) (length l.act) (even_lists l) (counted ∙ u) in
+          record {
+            limits = c.limits;
+            links = c.links;
+            to = grind (arith, nat_tests, c.as_laid);
+            weight = grind (arith, nat_tests, c.as_laid);
+            con = grind (arith, nat_tests, c.as_laid);
+            short = grind (arith, nat_tests, c.as_laid);
+            long = grind (arith, nat_tests, c.as_laid);
+          }
 
-      module _ {b : Answer} (q : b ≡ limits_answer version1 l.points 0 (records (limit_in l.from l.to l.weight) 0 (length l.from))) where
+      module _ {b : Answer} (q : b ≡ limits) where
         pub limits_stop : {r : Refusal} → b ≡ Err r → lists_answer l ≡ Err r
-        unfolding limits n m
         limits_stop w = rw (parts, counted, u, ← q, w)
 
-        pub links_all : b ≡ Done → {c : Answer}
-            → c ≡ links_answer version1 l.points (length l.from) 0 [] (records (link_in l.act l.con l.short l.long) 0 (length l.act))
-            → lists_answer l ≡ c
-        unfolding limits links n m k
+        pub links_all : b ≡ Done → {c : Answer} → c ≡ links → lists_answer l ≡ c
         links_all w r = rw (parts, counted, u, ← q, w, ← r)
 
 -- ---- the buffer

@@ -1,9 +1,10 @@
 -- What Sound refuses Judge would refuse with the same answer.
+use Rattle.std.proofs.Common.{sym, ◌∙◌}
+use Rattle.std.proofs.lemmas.Result.{err_from_is_err_and}
 use Rattle.rules.specs.Calls.{Judged}
-use Rattle.plan.proofs.SoundFile.{not_accepted}
 use Rattle.verdict.proofs.answer.Goals as goal
 
-pub returns-then-not-accepted : goal.returns-then-not-accepted
-returns-then-not-accepted c =
-    let sound = c.sound-a.ensures in
-    rw sound (Judged.bad_file (not_accepted _ sound c.accepted.ensures c.if-not-accepted.true))
+pub returns-in_err-sound : goal.returns-in_err-sound
+returns-in_err-sound c =
+    let refused = err_from_is_err_and c.from_residual.result c.from_residual.ensures.1 in
+    rw (refused.1, refused.2, sym c.sound.ensures ∙ c.in_err-sound.was) (Judged.bad_file (λ e. cc))

@@ -2,14 +2,14 @@
 use Rattle.std.proofs.Common.{◌∙◌, sym, refl, arith, get_or}
 use Rattle.rests.specs.Rests.{joins_on, rules_on}
 use Rattle.rests.proofs.GoingBack.{Left, part, joins_parts, rules_parts, joins_none, rules_none, left_full, left_none, first_taken, first_left, second_none, second_join, second_rule}
-use Rattle.rests.proofs.+joins_rules.Goals as goal
-use Rattle.rests.proofs.+joins_rules.Goals.{joins-then-first-at, joins-else-first-at, rules-then-one-at, rules-else-one-at}
+use Rattle.rests.proofs.Lines.+joins_rules.Goals as goal
+use Rattle.rests.proofs.Lines.+joins_rules.Goals.{joins-then-first-at, joins-else-first-at, rules-then-one-at, rules-else-one-at}
 
 pub joins-returns-then-at-second : goal.joins-returns-then-at-second
 joins-returns-then-at-second t c =
-    let kinds = c.args.kinds.now in
-    let firsts = c.args.firsts.now in
-    let seconds = c.args.seconds.now in
+    let kinds = c.args.self.kinds.now in
+    let firsts = c.args.self.firsts.now in
+    let seconds = c.args.self.seconds.now in
     let at = c.loop-line.at in
     let parts = joins_parts kinds firsts seconds at (sym c.is_join.ensures ∙ c.loop-line-test.true) in
     let left : Left (joins_on kinds firsts seconds c.args.line) c.args.room c.if-first-at.count (part kinds firsts seconds at (get_or seconds at 0)) =
@@ -23,9 +23,9 @@ joins-returns-then-at-second t c =
 
 pub joins-returns-then-count-room-2 : goal.joins-returns-then-count-room-2
 joins-returns-then-count-room-2 t c =
-    let kinds = c.args.kinds.now in
-    let firsts = c.args.firsts.now in
-    let seconds = c.args.seconds.now in
+    let kinds = c.args.self.kinds.now in
+    let firsts = c.args.self.firsts.now in
+    let seconds = c.args.self.seconds.now in
     let at = c.loop-line.at in
     let parts = joins_parts kinds firsts seconds at (sym c.is_join.ensures ∙ c.loop-line-test.true) in
     let left : Left (joins_on kinds firsts seconds c.args.line) c.args.room c.if-first-at.count (part kinds firsts seconds at (get_or seconds at 0)) =
@@ -39,9 +39,9 @@ joins-returns-then-count-room-2 t c =
 
 pub joins-loop-line-preserved : goal.joins-loop-line-preserved
 joins-loop-line-preserved t c =
-    let kinds = c.args.kinds.now in
-    let firsts = c.args.firsts.now in
-    let seconds = c.args.seconds.now in
+    let kinds = c.args.self.kinds.now in
+    let firsts = c.args.self.firsts.now in
+    let seconds = c.args.self.seconds.now in
     let at = c.loop-line.at in
     let parts = joins_parts kinds firsts seconds at (sym c.is_join.ensures ∙ c.loop-line-test.true) in
     let left : Left (joins_on kinds firsts seconds c.args.line) c.args.room c.if-first-at.count (part kinds firsts seconds at (get_or seconds at 0)) =
@@ -60,9 +60,9 @@ joins-returns t c = left_none c.loop-line.invariant.1 (joins_none _ _ _ _ (sym c
 
 pub rules-returns-then-at-other : goal.rules-returns-then-at-other
 rules-returns-then-at-other t c =
-    let kinds = c.args.kinds.now in
-    let firsts = c.args.firsts.now in
-    let seconds = c.args.seconds.now in
+    let kinds = c.args.self.kinds.now in
+    let firsts = c.args.self.firsts.now in
+    let seconds = c.args.self.seconds.now in
     let at = c.loop-line.at in
     let parts = rules_parts kinds firsts seconds at (sym c.is_rule.ensures ∙ c.loop-line-test.true) in
     let left : Left (rules_on kinds firsts seconds c.args.line) c.args.room c.if-one-at.count (part kinds firsts seconds at (get_or seconds at 0)) =
@@ -76,9 +76,9 @@ rules-returns-then-at-other t c =
 
 pub rules-returns-then-count-room-2 : goal.rules-returns-then-count-room-2
 rules-returns-then-count-room-2 t c =
-    let kinds = c.args.kinds.now in
-    let firsts = c.args.firsts.now in
-    let seconds = c.args.seconds.now in
+    let kinds = c.args.self.kinds.now in
+    let firsts = c.args.self.firsts.now in
+    let seconds = c.args.self.seconds.now in
     let at = c.loop-line.at in
     let parts = rules_parts kinds firsts seconds at (sym c.is_rule.ensures ∙ c.loop-line-test.true) in
     let left : Left (rules_on kinds firsts seconds c.args.line) c.args.room c.if-one-at.count (part kinds firsts seconds at (get_or seconds at 0)) =
@@ -92,9 +92,9 @@ rules-returns-then-count-room-2 t c =
 
 pub rules-loop-line-preserved : goal.rules-loop-line-preserved
 rules-loop-line-preserved t c =
-    let kinds = c.args.kinds.now in
-    let firsts = c.args.firsts.now in
-    let seconds = c.args.seconds.now in
+    let kinds = c.args.self.kinds.now in
+    let firsts = c.args.self.firsts.now in
+    let seconds = c.args.self.seconds.now in
     let at = c.loop-line.at in
     let parts = rules_parts kinds firsts seconds at (sym c.is_rule.ensures ∙ c.loop-line-test.true) in
     let left : Left (rules_on kinds firsts seconds c.args.line) c.args.room c.if-one-at.count (part kinds firsts seconds at (get_or seconds at 0)) =
