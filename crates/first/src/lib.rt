@@ -3,4 +3,4 @@
 
 mod starting;
 
-pub use starting::{first_strict, mark_all};
+pub use starting::first_strict;

@@ -1,109 +1,67 @@
-// The tables to start with: the mark everywhere, 0 on the diagonal, and in the strict one every given edge.
+// The strict table to start with: the mark everywhere, 0 on the diagonal, and every given edge.
 ghost use Rattle.std.specs.Prelude.{◌≡◌, ◌*◌, ◌≤◌, length};
-ghost use Rattle.rules.specs.Plan.{version1, LimitInRange, LinkInRange};
+ghost use Rattle.rules.specs.Plan.{version1, LinkInRange};
 ghost use Rattle.plan.specs.Layout.{limit_at, link_at};
-ghost use Rattle.plan.specs.Values.{limit_of, link_of};
-ghost use Rattle.lowering.specs.Table.{Sound, Ready};
-ghost use Rattle.lowering.specs.Sweep.{mark_all, diagonal_all, limit_cell, limit_all, start_all, link_edges, link_all, first_strict};
+ghost use Rattle.plan.specs.Values.{link_of};
+ghost use Rattle.lowering.specs.Sweep.{limit_all, start_all, link_edges, link_all, first_strict};
+ghost use Rattle.joining.specs.Takes.{Takes};
 
-use cell::Cell32;
-use joining::lower_cell;
-use plan::{Limit, Link};
-use reader::{limit_of, link_of};
+use cell::Word;
+use joining::Table;
+use plan::Link;
+use reader::SoundPlan;
 
-// The first cells all the mark.
-pub fn mark_all(t: &mut [i32], count: usize)
-    requires { count ≤ length t.old }
-    ensures { t.new ≡ mark_all version1 count t.old }
+// Every limit.
+fn limit_all(plan: SoundPlan, t: &mut Table<'_, i32>)
+    requires { plan.n ≡ t.old.n }
+    ensures { Takes (limit_all version1 t.old.n (limit_at plan.entry.file.now) plan.entry.m) t.old t.new }
 {
-    let none = Cell32::mark();
-    let mut i = 0;
-    while i < count {
-        let v = none.v;
-        t[i] = v;
-        i += 1;
-    }
-}
-
-// The diagonal at 0.
-fn diagonal_all(t: &mut [i32], n: usize)
-    requires { (n ≤ 64) × Sound version1 n t.old }
-    ensures { t.new ≡ diagonal_all version1 n t.old }
-{
-    let mut x = 0;
-    while x < n {
-        lower_cell(t, n, x, x, Cell32::of(0));
-        x += 1;
+    for i in 0..plan.m {
+        t.limit_cell(plan.limit(i));
     }
 }
 
 // Every start edge.
-fn start_all(t: &mut [i32], n: usize)
-    requires { (n ≤ 64) × Sound version1 n t.old }
-    ensures { t.new ≡ start_all version1 n t.old }
+fn start_all(t: &mut Table<'_, i32>)
+    ensures { Takes (start_all version1 t.old.n) t.old t.new }
 {
-    let mut x = 0;
-    while x < n {
-        lower_cell(t, n, x, 0, Cell32::of(0));
-        x += 1;
-    }
-}
-
-// The cell of a limit.
-fn limit_cell(t: &mut [i32], n: usize, l: Limit)
-    requires { (n ≤ 64) × LimitInRange version1 n (limit_of l) × Sound version1 n t.old }
-    ensures { t.new ≡ limit_cell version1 n (limit_of l) t.old }
-{
-    let from = l.from as usize;
-    let to = l.to as usize;
-    lower_cell(t, n, from, to, Cell32 { v: l.weight });
-}
-
-// Every limit.
-fn limit_all(file: &[u8], n: usize, m: u32, k: u32, t: &mut [i32])
-    requires { Ready file.now n m k × Sound version1 n t.old }
-    ensures { t.new ≡ limit_all version1 n (limit_at file.now) m t.old }
-{
-    let mut i = 0;
-    while i < m {
-        let l = limit_of(file, n, m, k, i);
-        limit_cell(t, n, l);
-        i += 1;
+    for x in 0..t.n {
+        t.lower_cell(x, 0, i32::of(0));
     }
 }
 
 // Both ordinary edges of a link: its longest, its shortest.
-fn link_edges(t: &mut [i32], n: usize, a: Link)
-    requires { (n ≤ 64) × LinkInRange version1 n (link_of a) × Sound version1 n t.old }
-    ensures { t.new ≡ link_edges version1 n (link_of a) t.old }
+fn link_edges(t: &mut Table<'_, i32>, a: Link)
+    requires { LinkInRange version1 t.old.n (link_of a) }
+    ensures { Takes (link_edges version1 t.old.n (link_of a)) t.old t.new }
 {
     let act = a.act as usize;
     let con = a.con as usize;
-    lower_cell(t, n, act, con, Cell32::of(a.long));
-    lower_cell(t, n, con, act, Cell32::of(a.short).negated());
+    t.lower_cell(act, con, i32::of(a.long));
+    t.lower_cell(con, act, i32::of(a.short).negated());
 }
 
 // Every link's.
-fn link_all(file: &[u8], n: usize, m: u32, k: u32, t: &mut [i32])
-    requires { Ready file.now n m k × Sound version1 n t.old }
-    ensures { t.new ≡ link_all version1 n (link_at file.now m) k t.old }
+fn link_all(plan: SoundPlan, t: &mut Table<'_, i32>)
+    requires { plan.n ≡ t.old.n }
+    ensures { Takes (link_all version1 t.old.n (link_at plan.entry.file.now plan.entry.m) plan.entry.k) t.old t.new }
 {
-    let mut i = 0;
-    while i < k {
-        let a = link_of(file, n, m, k, i);
-        link_edges(t, n, a);
-        i += 1;
+    for i in 0..plan.k {
+        link_edges(t, plan.link(i));
     }
 }
 
-// The strict table to start with.
-pub fn first_strict(file: &[u8], n: usize, m: u32, k: u32, t: &mut [i32])
-    requires { Ready file.now n m k × (n * n ≤ length t.old) }
-    ensures { t.new ≡ first_strict version1 n (limit_at file.now) m (link_at file.now m) k t.old }
+// The strict table to start with, in a lent list.
+pub fn first_strict<'a>(plan: SoundPlan, cells: &'a mut [i32]) -> Table<'a, i32>
+    requires { plan.n * plan.n ≤ length cells.old }
+    ensures same_list { result.cells.ghost_name ≡ cells.entry.ghost_name }
+    ensures same_size { result.n ≡ plan.entry.n }
+    ensures cells { result.cells.now ≡ first_strict version1 plan.entry.n (limit_at plan.entry.file.now) plan.entry.m (link_at plan.entry.file.now plan.entry.m) plan.entry.k cells.old }
 {
-    mark_all(t, n * n);
-    diagonal_all(t, n);
-    limit_all(file, n, m, k, t);
-    start_all(t, n);
-    link_all(file, n, m, k, t);
+    let mut t = Table::marked(cells, plan.n);
+    t.diagonal_all();
+    limit_all(plan, &mut t);
+    start_all(&mut t);
+    link_all(plan, &mut t);
+    t
 }

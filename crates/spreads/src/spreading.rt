@@ -1,69 +1,58 @@
 // One edge through a table that is joined already.
-ghost use Rattle.std.specs.Prelude.{◌≡◌, ◌≤◌, ◌<◌};
+ghost use Rattle.std.specs.Prelude.{◌<◌};
 ghost use Rattle.rules.specs.Plan.{version1};
 ghost use Rattle.cell.specs.Steps.{cell32, Stored};
-ghost use Rattle.lowering.specs.Table.{Sound};
-ghost use Rattle.lowering.specs.Sweep.{Between};
 ghost use Rattle.lowering.specs.Spread.{spread_row, spread_all, take_edge, new_edge};
+ghost use Rattle.joining.specs.Takes.{Takes};
 
-use cell::Cell32;
-use joining::{get, lower_cell, row_by};
+use cell::Word;
+use joining::Table;
 
 // Row x by an edge from a to b of w, if that shortens the way from x to b.
-fn spread_row(t: &mut [i32], n: usize, a: usize, b: usize, w: Cell32, x: usize)
-    requires { (x < n) × (a < n) × (b < n) × (n ≤ 64) × Sound version1 n t.old × Stored version1.reach (cell32 w.v) }
-    ensures { t.new ≡ spread_row version1 n a b (cell32 w.v) x t.old }
+fn spread_row(t: &mut Table<'_, i32>, a: usize, b: usize, w: i32, x: usize)
+    requires { (x < t.old.n) × (a < t.old.n) × (b < t.old.n) × Stored version1.reach (cell32 w) }
+    ensures { Takes (spread_row version1 t.old.n a b (cell32 w) x) t.old t.new }
 {
-    let way = get(t, n, x, a).add(w);
-    let old = get(t, n, x, b);
-    if way.below(old) {
-        row_by(t, n, b, x, way);
-    }
-}
-
-// The rows from first on and before last.
-fn spread_rows(t: &mut [i32], n: usize, a: usize, b: usize, w: Cell32, first: usize, last: usize)
-    requires { (a < n) × (b < n) × (n ≤ 64) × (first ≤ last) × (last ≤ n) × Sound version1 n t.old × Stored version1.reach (cell32 w.v) }
-    ensures { Between (spread_row version1 n a b (cell32 w.v)) first last t.old t.new }
-{
-    let mut x = first;
-    while x < last {
-        spread_row(t, n, a, b, w, x);
-        x += 1;
+    let way = t.get(x, a).add(w);
+    if way.below(t.get(x, b)) {
+        t.row_by(b, x, way);
     }
 }
 
 // Every row. The row of b is apart, as the middle's is in the joins.
-fn spread_all(t: &mut [i32], n: usize, a: usize, b: usize, w: Cell32)
-    requires { (a < n) × (b < n) × (n ≤ 64) × Sound version1 n t.old × Stored version1.reach (cell32 w.v) }
-    ensures { t.new ≡ spread_all version1 n a b (cell32 w.v) t.old }
+fn spread_all(t: &mut Table<'_, i32>, a: usize, b: usize, w: i32)
+    requires { (a < t.old.n) × (b < t.old.n) × Stored version1.reach (cell32 w) }
+    ensures { Takes (spread_all version1 t.old.n a b (cell32 w)) t.old t.new }
 {
-    spread_rows(t, n, a, b, w, 0, b);
-    spread_row(t, n, a, b, w, b);
-    spread_rows(t, n, a, b, w, b + 1, n);
+    'above: for x in 0..b {
+        spread_row(t, a, b, w, x);
+    }
+    spread_row(t, a, b, w, b);
+    'below: for x in b + 1..t.n {
+        spread_row(t, a, b, w, x);
+    }
 }
 
 // An edge from a to b of w: one that closes a walk below 0 is written to the diagonal, where that is looked for; any other is spread.
-fn take_edge(t: &mut [i32], n: usize, a: usize, b: usize, w: Cell32)
-    requires { (a < n) × (b < n) × (n ≤ 64) × Sound version1 n t.old × Stored version1.reach (cell32 w.v) }
-    ensures { t.new ≡ take_edge version1 n a b (cell32 w.v) t.old }
+fn take_edge(t: &mut Table<'_, i32>, a: usize, b: usize, w: i32)
+    requires { (a < t.old.n) × (b < t.old.n) × Stored version1.reach (cell32 w) }
+    ensures { Takes (take_edge version1 t.old.n a b (cell32 w)) t.old t.new }
 {
-    let around = w.add(get(t, n, b, a));
-    if around.below(Cell32::of(0)) {
-        lower_cell(t, n, a, a, around);
-        return;
+    let around = w.add(t.get(b, a));
+    if around.below(i32::of(0)) {
+        t.lower_cell(a, a, around);
+    } else {
+        spread_all(t, a, b, w);
     }
-    spread_all(t, n, a, b, w);
 }
 
 // An edge from a to b of c, taken if it lowers the cell.
-pub fn new_edge(t: &mut [i32], n: usize, a: usize, b: usize, c: Cell32)
-    requires { (a < n) × (b < n) × (n ≤ 64) × Sound version1 n t.old }
-    ensures { t.new ≡ new_edge version1 n a b (cell32 c.v) t.old }
+pub fn new_edge(t: &mut Table<'_, i32>, a: usize, b: usize, c: i32)
+    requires { (a < t.old.n) × (b < t.old.n) }
+    ensures { Takes (new_edge version1 t.old.n a b (cell32 c)) t.old t.new }
 {
     let w = c.kept();
-    let old = get(t, n, a, b);
-    if w.below(old) {
-        take_edge(t, n, a, b, w);
+    if w.below(t.get(a, b)) {
+        take_edge(t, a, b, w);
     }
 }

@@ -1,0 +1,2 @@
+-- Laws that the first strict table cites.
+pub mod Edges
