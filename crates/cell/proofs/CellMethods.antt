@@ -3,19 +3,19 @@
 use mathlib.Core.Path.{◌≡◌, refl, sym, ◌∙◌}
 use mathlib.Core.Bool.{Bool, true, false, cond, true≢false}
 use mathlib.Core.Logic.{◌⊎◌, inl, inr}
-use Prim.Native.Nat.{ℕ, suc, ◌+◌, ◌-◌, ◌^◌, ◌≤◌}
+use Prim.Native.Nat.{ℕ, suc, ◌+◌, ◌-◌, ◌^◌, ◌≤◌, ◌<◌}
 use native.Mathlib.Omega.{arith}
 use lib.Dec.{T, eqb}
 use lib.IntN.{ℤ, pos, negsuc, neg_ℤ, nat_abs, ◌+ℤ◌, ◌-ℤ◌}
-use lib.Signed.{lt_z, non_neg, ◌≤ℤ◌, ◌<ℤ◌}
+use lib.Signed.{lt_z, mag, non_neg, ◌≤ℤ◌, ◌<ℤ◌}
 use borrow.Author.Tests.{eq-eqb, ne_eqb}
 use mir.Syntax.{Width, w64}
-use mir.Val.{Fits, SFits, of_z, to_z, bits}
+use mir.Val.{Fits, SFits, of_z, to_z, bits, hbits}
 use mir.ValLaws.{pow-bits}
 use Rattle.whole.specs.Signed.{larger}
 use Rattle.whole.proofs.Order.{ints, plus, neg, parts, split}
 use Rattle.whole.proofs.Larger.{larger_least}
-use Rattle.whole.proofs.Bits.{signed, kept, back, abs, by_non_neg, lt_lt_z, le_lt_z, cast_is}
+use Rattle.whole.proofs.Bits.{signed, kept, back, fit, abs, by_non_neg, lt_lt_z, le_lt_z, cast_is}
 use Rattle.rules.specs.Plan.{Ranges, Link}
 use Rattle.rules.specs.Edges.{spread}
 use Rattle.rules.specs.Cells.{Cell, mark, num, cell_of, ◌+ᶜ◌, lowered, uppered, Within}
@@ -102,6 +102,12 @@ module _ (n : ℕ) {c : Cell} {a : ℤ} (i : c ≡ num a) where
 
   pub reach_within : lt_z (pos n) a ≡ false → lt_z a (neg_ℤ (pos n)) ≡ false → Decides true (Within n c)
   reach_within f g = decided_yes (rw i (omega signed))
+
+-- ---- from one call to another
+
+-- a number that one call gave is what the next is passed, by the bound that the step of the first has as its `type_inv`
+pub passed : (w : Width) {a : ℤ} → mag a < 2 ^ hbits w → to_z w (of_z w a) ≡ a
+passed w {a} h = back (fit w a h)
 
 -- ---- from one width to another
 
