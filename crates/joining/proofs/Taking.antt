@@ -34,6 +34,15 @@ module _ {W : Type 0} {w : Ghosts W} where
   pub takes_none : {f : List ℤ → List ℤ} {t : Table W w} → w.values t.cells.now ≡ f (w.values t.cells.now) → Takes f t t
   takes_none e = record { same_list = refl; same_size = refl; cells = e }
 
+  -- one step after another, the second of which depends on the size
+  pub takes_then : (F : ℕ → List ℤ → List ℤ) {f : List ℤ → List ℤ} {t u v : Table W w} → Takes f t u → Takes (F u.n) u v → Takes (λ l. F t.n (f l)) t v
+  takes_then F {t = t} {u} a b =
+      record {
+        same_list = b.same_list ∙ a.same_list;
+        same_size = b.same_size ∙ a.same_size;
+        cells = b.cells ∙ (ap (λ n. F n (w.values u.cells.now)) a.same_size ∙ ap (F t.n) a.cells);
+      }
+
   -- a loop that takes a step for each number has come to i
   pub record Turned (f : ℕ → List ℤ → List ℤ) (i : ℕ) (before after : Table W w) : Type 0 where
     pub same_list : after.cells.ghost_name ≡ before.cells.ghost_name
