@@ -12,7 +12,6 @@ use lib.IntN.{ℤ, pos, neg_ℤ}
 use lib.Signed.{◌≤ℤ◌, ≤ℤ_refl}
 use Rattle.whole.proofs.Order.{ints, neg}
 use Rattle.rules.specs.Plan.{Limit, Plan, version1, LimitInRange, InRange}
-use Rattle.rules.proofs.Coherence.{Coherent}
 use Rattle.rules.specs.Edges as edges
 use Rattle.rules.specs.Edges.{Given, Derivable, Open}
 use Rattle.rules.specs.Walks.{stay}
@@ -24,6 +23,7 @@ use Rattle.rules.proofs.Walks.{single, Dominated, exactly}
 use Rattle.rules.proofs.Points.{Pointed, Weighted, Ends, given_ends, in_range_pointed, in_range_weighted}
 use Rattle.rules.proofs.CellLimits.{FromCell, table_limit, table_has, cells_pointed}
 use Rattle.cell.specs.Steps.{adding, Stored}
+use Rattle.cell.specs.Widths.{adding_coherent, adding_weights}
 use Rattle.cell.proofs.StoredCells.{clamped_within}
 use Rattle.lowering.specs.Sweep.{limit_cell, first_open, mark_all}
 use Rattle.lowering.proofs.Theory.LoweredTables.{lowered_below, cell_down}
@@ -32,11 +32,6 @@ use Rattle.lowering.proofs.Theory.StepsTaken.{Taken, keeps}
 use Rattle.lowering.proofs.Theory.SweepsTaken.{strict_cells, open_cells}
 use Rattle.lowering.proofs.Theory.FirstTables.{marks_walked, diagonal_steps, diagonal_below}
 use Rattle.lowering.proofs.Theory.SweepsEnd.{Going}
-
--- "its weights may exceed a file's range": a weight up to the closed range, 63 such weights and the mark go together
-pub adding_coherent : Coherent adding
-unfolding adding
-adding_coherent = record { holds_weight = omega arith; holds_walks = omega arith; mark_above = omega arith }
 
 -- a cell of closed tables is one that the wide sweep stores
 pub within_wide : (c : Cell) → Within version1.reach c → Stored adding.reach c
@@ -48,11 +43,7 @@ within_wide (num c) w = (omega (ints, w.0, neg (pos 63_000_000)), omega (ints, w
 in_wide : {a b : ℕ} {w : ℤ} → a ≤ b → neg_ℤ (pos a) ≤ℤ w → neg_ℤ (pos b) ≤ℤ w
 in_wide {a} {b} h l = omega (ints, neg (pos a), neg (pos b))
 
--- the closed range is the largest weight that Add meets, and holds a file's weights
-pub weights_held : version1.weight ≤ adding.weight
-unfolding version1 adding
-weights_held = omega arith
-
+-- the closed range is the largest weight that Add meets
 reach_held : version1.reach ≤ adding.weight
 unfolding version1 adding
 reach_held = omega arith
@@ -78,7 +69,7 @@ module _ (p : Plan) (g : InRange version1 p) (strict weak : Table) (c : Closed v
       cell_weight (strict l.from l.to) l.weight f.cell (c.strict_within l.from l.to f.row_below f.column_below)
 
   new_limit : (l : Limit) → l ≡ m → (neg_ℤ (pos adding.weight) ≤ℤ l.weight) × (l.weight ≤ℤ pos adding.weight)
-  new_limit l e = rw e (in_wide weights_held i.least, omega (ints, i.most, weights_held))
+  new_limit l e = rw e (in_wide adding_weights i.least, omega (ints, i.most, adding_weights))
 
   limit_weight : (l : Limit) → Memᴰ l (with_cells p strict m).limits
       → (neg_ℤ (pos adding.weight) ≤ℤ l.weight) × (l.weight ≤ℤ pos adding.weight)
@@ -91,8 +82,8 @@ module _ (p : Plan) (g : InRange version1 p) (strict weak : Table) (c : Closed v
       record {
         limit_least = λ l h. (limit_weight l h).0;
         limit_most = λ l h. (limit_weight l h).1;
-        short_most = λ k h. omega (arith, (in_range_weighted g).short_most k h, weights_held);
-        long_most = λ k h. omega (arith, (in_range_weighted g).long_most k h, weights_held);
+        short_most = λ k h. omega (arith, (in_range_weighted g).short_most k h, adding_weights);
+        long_most = λ k h. omega (arith, (in_range_weighted g).long_most k h, adding_weights);
       }
 
   -- a strict cell has its walk in Add's plan: it is a limit, or the empty walk

@@ -1,3 +1,3 @@
--- What Add's sweep starts from, with no code in sight.
+-- Laws that Add's sweep cites, and that its start is one of Add's plan.
 pub mod AddStart
-pub mod WideCells
+pub mod LinksThere

@@ -1,53 +1,44 @@
 // Lower: for each link, and then for the contingent point of each other link.
-ghost use Rattle.std.specs.Prelude.{◌≡◌, ◌≤◌, ◌<◌};
+ghost use Rattle.std.specs.Prelude.{◌≡◌, ◌<◌};
 ghost use Rattle.cell.specs.Steps.{adding};
 ghost use Rattle.rules.specs.Plan.{version1, LinkInRange};
 ghost use Rattle.plan.specs.Layout.{link_at};
 ghost use Rattle.plan.specs.Values.{link_of};
-ghost use Rattle.lowering.specs.Table.{Sound, Ready};
 ghost use Rattle.lowering.specs.Sweep.{lower_pair, lower_link, lower_all};
+ghost use Rattle.joining.specs.Takes.{Takes};
 
-use crate::{get, lower_cell};
+use cell::Word;
+use joining::Table;
 use plan::Link;
-use reader::link_of;
+use reader::SoundPlan;
 
 // For the link a and the contingent point of the link b, if another.
-fn lower_pair(t: &mut [i64], n: usize, a: Link, b: Link)
-    requires { (n ≤ 64) × LinkInRange version1 n (link_of a) × LinkInRange version1 n (link_of b) × Sound adding n t.old }
-    ensures { t.new ≡ lower_pair adding n (link_of a) (link_of b) t.old }
+fn lower_pair(t: &mut Table<'_, i64>, a: Link, b: Link)
+    requires { LinkInRange version1 t.old.n (link_of a) × LinkInRange version1 t.old.n (link_of b) }
+    ensures { Takes (lower_pair adding t.old.n (link_of a) (link_of b)) t.old t.new }
 {
-    if b.con == a.con {
-        return;
+    if b.con != a.con {
+        let c = t.get(a.con as usize, b.con as usize);
+        t.lower_cell(a.act as usize, b.con as usize, c.lower(a.short, b.long - b.short));
     }
-    let from = a.act as usize;
-    let by = a.con as usize;
-    let to = b.con as usize;
-    let c = get(t, n, by, to);
-    lower_cell(t, n, from, to, c.lower(a.short, b.long - b.short));
 }
 
-// For the link at index i and each of the links.
-fn lower_link(file: &[u8], n: usize, m: u32, k: u32, t: &mut [i64], i: u32)
-    requires { (i < k) × Ready file.now n m k × Sound adding n t.old }
-    ensures { t.new ≡ lower_link adding n (link_at file.now m) k (link_at file.now m i) t.old }
+// For the link a and each of the links.
+fn lower_link(t: &mut Table<'_, i64>, plan: SoundPlan, a: Link)
+    requires { (plan.n ≡ t.old.n) × LinkInRange version1 t.old.n (link_of a) }
+    ensures { Takes (lower_link adding t.old.n (link_at plan.entry.file.now plan.entry.m) plan.entry.k (link_of a)) t.old t.new }
 {
-    let a = link_of(file, n, m, k, i);
-    let mut j = 0;
-    while j < k {
-        let b = link_of(file, n, m, k, j);
-        lower_pair(t, n, a, b);
-        j += 1;
+    for j in 0..plan.k {
+        lower_pair(t, a, plan.link(j));
     }
 }
 
 // For each of the links.
-pub fn lower_all(file: &[u8], n: usize, m: u32, k: u32, t: &mut [i64])
-    requires { Ready file.now n m k × Sound adding n t.old }
-    ensures { t.new ≡ lower_all adding n (link_at file.now m) k t.old }
+pub fn lower_all(t: &mut Table<'_, i64>, plan: SoundPlan)
+    requires { plan.n ≡ t.old.n }
+    ensures { Takes (lower_all adding t.old.n (link_at plan.entry.file.now plan.entry.m) plan.entry.k) t.old t.new }
 {
-    let mut i = 0;
-    while i < k {
-        lower_link(file, n, m, k, t, i);
-        i += 1;
+    for i in 0..plan.k {
+        lower_link(t, plan, plan.link(i));
     }
 }

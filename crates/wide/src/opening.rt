@@ -1,36 +1,31 @@
 // The open table under the lower-case edge of each link.
-ghost use Rattle.std.specs.Prelude.{◌≡◌, ◌≤◌};
+ghost use Rattle.std.specs.Prelude.{◌≡◌};
 ghost use Rattle.cell.specs.Steps.{adding};
 ghost use Rattle.rules.specs.Plan.{version1, LinkInRange};
 ghost use Rattle.plan.specs.Layout.{link_at};
 ghost use Rattle.plan.specs.Values.{link_of};
-ghost use Rattle.lowering.specs.Table.{Sound, Ready};
 ghost use Rattle.lowering.specs.Sweep.{case_link, case_all};
+ghost use Rattle.joining.specs.Takes.{Takes};
 
-use crate::lower_cell;
-use cell::wide::Cell64;
+use cell::Word;
+use joining::Table;
 use plan::Link;
-use reader::link_of;
+use reader::SoundPlan;
 
 // The cell of a link under its lower-case edge.
-fn case_link(t: &mut [i64], n: usize, a: Link)
-    requires { (n ≤ 64) × LinkInRange version1 n (link_of a) × Sound adding n t.old }
-    ensures { t.new ≡ case_link adding n (link_of a) t.old }
+fn case_link(t: &mut Table<'_, i64>, a: Link)
+    requires { LinkInRange version1 t.old.n (link_of a) }
+    ensures { Takes (case_link adding t.old.n (link_of a)) t.old t.new }
 {
-    let from = a.act as usize;
-    let to = a.con as usize;
-    lower_cell(t, n, from, to, Cell64::of(a.short));
+    t.lower_cell(a.act as usize, a.con as usize, i64::of(a.short));
 }
 
 // Every link's.
-pub fn case_all(file: &[u8], n: usize, m: u32, k: u32, t: &mut [i64])
-    requires { Ready file.now n m k × Sound adding n t.old }
-    ensures { t.new ≡ case_all adding n (link_at file.now m) k t.old }
+pub fn case_all(t: &mut Table<'_, i64>, plan: SoundPlan)
+    requires { plan.n ≡ t.old.n }
+    ensures { Takes (case_all adding t.old.n (link_at plan.entry.file.now plan.entry.m) plan.entry.k) t.old t.new }
 {
-    let mut i = 0;
-    while i < k {
-        let a = link_of(file, n, m, k, i);
-        case_link(t, n, a);
-        i += 1;
+    for i in 0..plan.k {
+        case_link(t, plan.link(i));
     }
 }

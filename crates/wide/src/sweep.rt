@@ -2,29 +2,30 @@
 ghost use Rattle.std.specs.Prelude.{◌≡◌};
 ghost use Rattle.cell.specs.Steps.{adding};
 ghost use Rattle.plan.specs.Layout.{link_at};
-ghost use Rattle.lowering.specs.Table.{Sound, Ready};
 ghost use Rattle.lowering.specs.Sweep.{join_all, case_all, sweep_strict};
+ghost use Rattle.joining.specs.Takes.{Takes};
 
-use crate::joins::join_all;
 use crate::lowers::lower_all;
 use crate::opening::case_all;
 use crate::uppers::upper_all;
+use joining::Table;
+use reader::SoundPlan;
 
 // The strict table: joins, then Lower, then Upper.
-pub fn sweep_strict(file: &[u8], n: usize, m: u32, k: u32, t: &mut [i64])
-    requires { Ready file.now n m k × Sound adding n t.old }
-    ensures { t.new ≡ sweep_strict adding n (link_at file.now m) k t.old }
+pub fn sweep_strict(t: &mut Table<'_, i64>, plan: SoundPlan)
+    requires { plan.n ≡ t.old.n }
+    ensures { Takes (sweep_strict adding t.old.n (link_at plan.entry.file.now plan.entry.m) plan.entry.k) t.old t.new }
 {
-    join_all(t, n);
-    lower_all(file, n, m, k, t);
-    upper_all(file, n, m, k, t);
+    t.join_all();
+    lower_all(t, plan);
+    upper_all(t, plan);
 }
 
 // The open table once it is under the strict one: under the lower-case edges, joins.
-pub fn join_cases(file: &[u8], n: usize, m: u32, k: u32, t: &mut [i64])
-    requires { Ready file.now n m k × Sound adding n t.old }
-    ensures { t.new ≡ join_all adding n (case_all adding n (link_at file.now m) k t.old) }
+pub fn join_cases(t: &mut Table<'_, i64>, plan: SoundPlan)
+    requires { plan.n ≡ t.old.n }
+    ensures { Takes (λ cells. join_all adding t.old.n (case_all adding t.old.n (link_at plan.entry.file.now plan.entry.m) plan.entry.k cells)) t.old t.new }
 {
-    case_all(file, n, m, k, t);
-    join_all(t, n);
+    case_all(t, plan);
+    t.join_all();
 }

@@ -1,48 +1,42 @@
 // Upper: from each point, for each of the links. It reads and writes the strict table.
-ghost use Rattle.std.specs.Prelude.{◌≡◌, ◌≤◌, ◌<◌};
+ghost use Rattle.std.specs.Prelude.{◌≡◌, ◌<◌};
 ghost use Rattle.cell.specs.Steps.{adding};
 ghost use Rattle.rules.specs.Plan.{version1, LinkInRange};
 ghost use Rattle.plan.specs.Layout.{link_at};
 ghost use Rattle.plan.specs.Values.{link_of};
-ghost use Rattle.lowering.specs.Table.{Sound, Ready};
 ghost use Rattle.lowering.specs.Sweep.{upper_cell, upper_point, upper_all};
+ghost use Rattle.joining.specs.Takes.{Takes};
 
-use crate::{get, lower_cell};
+use cell::Word;
+use joining::Table;
 use plan::Link;
-use reader::link_of;
+use reader::SoundPlan;
 
 // From the point x, for the link a.
-fn upper_cell(t: &mut [i64], n: usize, x: usize, a: Link)
-    requires { (x < n) × (n ≤ 64) × LinkInRange version1 n (link_of a) × Sound adding n t.old }
-    ensures { t.new ≡ upper_cell adding n x (link_of a) t.old }
+fn upper_cell(t: &mut Table<'_, i64>, x: usize, a: Link)
+    requires { (x < t.old.n) × LinkInRange version1 t.old.n (link_of a) }
+    ensures { Takes (upper_cell adding t.old.n x (link_of a)) t.old t.new }
 {
-    let by = a.con as usize;
-    let to = a.act as usize;
-    let c = get(t, n, x, by);
-    lower_cell(t, n, x, to, c.upper(a.short, a.long));
+    let c = t.get(x, a.con as usize);
+    t.lower_cell(x, a.act as usize, c.upper(a.short, a.long));
 }
 
 // From the point x, for each of the links.
-fn upper_point(file: &[u8], n: usize, m: u32, k: u32, t: &mut [i64], x: usize)
-    requires { (x < n) × Ready file.now n m k × Sound adding n t.old }
-    ensures { t.new ≡ upper_point adding n (link_at file.now m) k x t.old }
+fn upper_point(t: &mut Table<'_, i64>, plan: SoundPlan, x: usize)
+    requires { (x < t.old.n) × (plan.n ≡ t.old.n) }
+    ensures { Takes (upper_point adding t.old.n (link_at plan.entry.file.now plan.entry.m) plan.entry.k x) t.old t.new }
 {
-    let mut i = 0;
-    while i < k {
-        let a = link_of(file, n, m, k, i);
-        upper_cell(t, n, x, a);
-        i += 1;
+    for i in 0..plan.k {
+        upper_cell(t, x, plan.link(i));
     }
 }
 
 // From each point.
-pub fn upper_all(file: &[u8], n: usize, m: u32, k: u32, t: &mut [i64])
-    requires { Ready file.now n m k × Sound adding n t.old }
-    ensures { t.new ≡ upper_all adding n (link_at file.now m) k t.old }
+pub fn upper_all(t: &mut Table<'_, i64>, plan: SoundPlan)
+    requires { plan.n ≡ t.old.n }
+    ensures { Takes (upper_all adding t.old.n (link_at plan.entry.file.now plan.entry.m) plan.entry.k) t.old t.new }
 {
-    let mut x = 0;
-    while x < n {
-        upper_point(file, n, m, k, t, x);
-        x += 1;
+    for x in 0..t.n {
+        upper_point(t, plan, x);
     }
 }
