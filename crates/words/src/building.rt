@@ -3,6 +3,7 @@ ghost use Rattle.std.specs.Prelude.{◌≡◌, ◌*◌, ◌≤◌, ◌<◌, leng
 ghost use Rattle.words.specs.Sets.{word_of};
 ghost use Rattle.words.specs.Calls.{room_answer, Room, bounds, Reached};
 
+use cell::Word;
 use joining::get;
 use rules::{Answer, Refusal};
 
