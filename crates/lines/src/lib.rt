@@ -40,8 +40,8 @@ struct Columns<'a> {
 impl<'a> Columns<'a> {
     // Line i, where there is one.
     #[tactic(auto, using(crate::proofs::LinesRead::listed_past))]
-    fn line(self, at: usize) -> Option<Line>
-        ensures { unwrap_or result no_line ≡ line_in self.entry at }
+    fn line(&self, at: usize) -> Option<Line>
+        ensures { unwrap_or result no_line ≡ line_in self.now at }
     {
         Some(Line {
             kind: *self.kinds.get(at)?,
@@ -54,8 +54,8 @@ impl<'a> Columns<'a> {
     }
 
     // How many lines the six lists hold together.
-    fn count(self) -> usize
-        ensures { result ≡ count_of self.entry }
+    fn count(&self) -> usize
+        ensures { result ≡ count_of self.now }
     {
         self.kinds
             .len()

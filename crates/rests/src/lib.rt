@@ -7,10 +7,13 @@ ghost use Rattle.rests.specs.Rests.{is_join, is_rule, rests_on, largest, kind_in
 
 const LARGEST: u32 = 1000000;
 
-// The kinds of the lines that rest on others; the other kinds, from 1 to 9, are numbers here alone.
+// The kinds of lines that rest on others: a reason list numbers its kinds 1 to 9.
 const STRICT_JOIN: u32 = 6;
+
 const LOWER: u32 = 7;
+
 const UPPER: u32 = 8;
+
 const OPEN_JOIN: u32 = 9;
 
 // A line's reference out of a list; past the list 0.
@@ -31,8 +34,8 @@ struct Lines<'a> {
 impl<'a> Lines<'a> {
     // The kind of a line that is within all three lists.
     #[tactic(auto, using(crate::proofs::GoingBack::kind_past, crate::proofs::GoingBack::kind_within))]
-    fn kind_at(self, at: usize) -> Option<u32>
-        ensures { unwrap_or result 0 ≡ kind_in self.entry at }
+    fn kind_at(&self, at: usize) -> Option<u32>
+        ensures { unwrap_or result 0 ≡ kind_in self.now at }
     {
         self.firsts.get(at)?;
         self.seconds.get(at)?;
@@ -40,24 +43,24 @@ impl<'a> Lines<'a> {
     }
 
     // The kind of a line; past the list 0, which is no kind.
-    fn kind(self, line: u32) -> u32
-        ensures { result ≡ kind_in self.entry line }
+    fn kind(&self, line: u32) -> u32
+        ensures { result ≡ kind_in self.now line }
     {
         self.kind_at(line as usize).unwrap_or(0)
     }
 
     // Whether a line is a join line: a strict or an open join.
     #[tactic(auto, unfolding(crate::specs::Rests::is_join))]
-    fn is_join(self, line: u32) -> bool
-        ensures { result ≡ is_join (kind_in self.entry line) }
+    fn is_join(&self, line: u32) -> bool
+        ensures { result ≡ is_join (kind_in self.now line) }
     {
         matches!(self.kind(line), STRICT_JOIN | OPEN_JOIN)
     }
 
     // Whether a line is a rule line: Lower or Upper.
     #[tactic(auto, unfolding(crate::specs::Rests::is_rule))]
-    fn is_rule(self, line: u32) -> bool
-        ensures { result ≡ is_rule (kind_in self.entry line) }
+    fn is_rule(&self, line: u32) -> bool
+        ensures { result ≡ is_rule (kind_in self.now line) }
     {
         matches!(self.kind(line), LOWER | UPPER)
     }
@@ -66,9 +69,10 @@ impl<'a> Lines<'a> {
     // no more than `room` lines are ever gone back to, whatever the lists hold. What the second reference rests on as a join line is counted by going on in the
     // loop, so calls nest only at first references and where join and rule lines take turns: at most as deep as there are lines before this one, and as `room`.
     // The loop is no `for`: it goes along references, and not from one number to the next.
+    // The lists are lent and not copied, so that a nested call takes little stack.
     #[cycle(joins_rules)]
-    fn joins(self, line: u32, room: u32) -> u32
-        ensures { result ≡ min (joins_in self.entry line) room }
+    fn joins(&self, line: u32, room: u32) -> u32
+        ensures { result ≡ min (joins_in self.now line) room }
     {
         let mut at = line;
         let mut count: u32 = 0;
@@ -98,8 +102,8 @@ impl<'a> Lines<'a> {
 
     // The same of a rule line: what it rests on, or `room` if that is less; 0 for any other line. It goes on in the loop where the second reference is a rule line.
     #[cycle(joins_rules)]
-    fn rules(self, line: u32, room: u32) -> u32
-        ensures { result ≡ min (rules_in self.entry line) room }
+    fn rules(&self, line: u32, room: u32) -> u32
+        ensures { result ≡ min (rules_in self.now line) room }
     {
         let mut at = line;
         let mut count: u32 = 0;

@@ -6,6 +6,6 @@ use Rattle.lines.proofs.Columns.line.Goals as goal
 
 pub returns : goal.returns
 returns c =
-    let of = c.args.self in
+    let of = c.args.self.now in
     let h = listed_within of.kinds.now of.froms.now of.tos.now of.weights.now of.firsts.now of.seconds.now c.args.at (grind arith) in
     search (rules, h)
