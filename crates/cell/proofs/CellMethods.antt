@@ -9,16 +9,17 @@ use lib.Dec.{T, eqb}
 use lib.IntN.{ℤ, pos, negsuc, neg_ℤ, nat_abs, ◌+ℤ◌, ◌-ℤ◌}
 use lib.Signed.{lt_z, non_neg, ◌≤ℤ◌, ◌<ℤ◌}
 use borrow.Author.Tests.{eq-eqb, ne_eqb}
-use mir.Syntax.{Width, w32, w64}
-use mir.Val.{Fits, SFits, of_z, to_z, hbits, bits}
+use mir.Syntax.{Width, w64}
+use mir.Val.{Fits, SFits, of_z, to_z, bits}
 use mir.ValLaws.{pow-bits}
 use Rattle.whole.specs.Signed.{larger}
 use Rattle.whole.proofs.Order.{ints, plus, neg, parts, split}
 use Rattle.whole.proofs.Larger.{larger_least}
 use Rattle.whole.proofs.Bits.{signed, kept, back, abs, by_non_neg, lt_lt_z, le_lt_z, cast_is}
-use Rattle.rules.specs.Plan.{Ranges, Link, version1}
+use Rattle.rules.specs.Plan.{Ranges, Link}
 use Rattle.rules.specs.Edges.{spread}
 use Rattle.rules.specs.Cells.{Cell, mark, num, cell_of, ◌+ᶜ◌, lowered, uppered, Within}
+pub use Rattle.cell.specs.Widths.{Room, room32, room64, room_roomy}
 use Rattle.cell.specs.Steps.{adding, roomy, is_mark, belowᶜ, Stored, Summed, clamped, height, Decides}
 
 -- ---- the mark and the numbers beside it
@@ -111,26 +112,6 @@ cast_cell n {a} h k i l = rw (cast_is h k, i) (number_is n a l)
 
 -- ---- what is asked of a width and its ranges
 
--- the mark is the largest number of the type, and three cells of the reach and their floors add up below it
-pub record Room (w : Width) (r : Ranges) : Type 0 where
-  pub top : suc r.mark ≡ 2 ^ hbits w
-  pub wide : r.reach + r.reach + r.reach + 3 ≤ r.mark
-  pub weight : r.weight ≤ r.reach
-
--- the two widths and their ranges have that room
-pub room32 : Room w32 version1
-unfolding version1
-room32 = record { top = refl; wide = omega arith; weight = omega arith }
-
-pub room64 : Room w64 adding
-unfolding adding
-room64 = record { top = refl; wide = omega arith; weight = omega arith }
-
--- and of the cells that may be added to
-pub room_roomy : Room w64 roomy
-unfolding adding
-room_roomy = record { top = refl; wide = omega arith; weight = omega arith }
-
 -- a cell that a sweep of Add holds may be added to
 pub stored_roomy : (c : Cell) → Stored adding.reach c → Stored roomy.reach c
 unfolding adding
@@ -173,6 +154,14 @@ summed reach mark b s t = tt
 summed reach (num a) mark s t = tt
 summed reach (num a) (num b) s t = (omega (ints, plus a b), omega (ints, plus a b))
 
+-- a cell that a sweep holds, and the sum of two, are so at any farther reach
+pub stored_far : {reach far : ℕ} → reach ≤ far → (c : Cell) → Stored reach c → Stored far c
+stored_far h mark s = tt
+stored_far h (num a) s = (omega (ints, s.0), omega (ints, s.1))
+
+pub summed_far : {reach far : ℕ} → reach ≤ far → (c : Cell) → Summed reach c → Summed far c
+summed_far h c s = stored_far (omega arith) c s
+
 -- such a cell is one that a sweep may hold
 pub number_stored : {r : Ranges} {a : ℤ} → Number r a → Stored r.reach (cell_of r.mark a)
 number_stored x = rw x.is (x.least, x.most)
@@ -194,6 +183,18 @@ module _ {w : Width} {r : Ranges} (room : Room w r) where
   -- so is a weight
   pub weight_number : {n : ℕ} → n ≤ r.weight → Number r (pos n)
   weight_number h = in_range (omega ints) (omega ints)
+
+  -- and its cell is that number
+  pub weight_is : {v : ℤ} {n : ℕ} → n ≤ r.weight → v ≡ pos n → cell_of r.mark v ≡ num (pos n)
+  weight_is h e = rw e (weight_number h).is
+
+  -- so is the negation of a weight
+  pub minus_is : {v : ℤ} {n : ℕ} → n ≤ r.weight → v ≡ neg_ℤ (pos n) → cell_of r.mark v ≡ num (neg_ℤ (pos n))
+  minus_is {v} {n} h e = rw e (in_range {a = neg_ℤ (pos n)} (omega (ints, neg (pos n), room.weight)) (omega (ints, neg (pos n)))).is
+
+  -- and a number between the two
+  pub number_between : {v : ℤ} → neg_ℤ (pos r.weight) ≤ℤ v → v ≤ℤ pos r.weight → cell_of r.mark v ≡ num v
+  number_between {v} h k = (in_range {a = v} (omega (ints, neg (pos r.weight), room.weight)) (omega (ints, room.weight))).is
 
   -- the test of the bits for the mark is the test of the cell
   pub mark_flag : (a : ℤ) → SFits w a → eqb (of_z w a) r.mark ≡ is_mark (cell_of r.mark a)
