@@ -28,7 +28,8 @@ use Rattle.lowering.proofs.Laws.FirstAsRead.{marks_sound}
 use Rattle.lowering.proofs.Theory.StillSweep.{AllLinks}
 use Rattle.lowering.proofs.Theory.SweepSteps.{diagonal_lowers}
 use Rattle.lowering.proofs.Theory.SweepsEnd.{Going, kept_trans, lowered_kept, marks_kept, going_on, going_open_lowered, going_ends, unfair_strict, unfair_open}
-use Rattle.wide.proofs.AddStart.{adding_coherent, few_points, added_pointed, added_weighted, start_going}
+use Rattle.cell.specs.Widths.{adding_coherent}
+use Rattle.wide.proofs.AddStart.{few_points, added_pointed, added_weighted, start_going}
 use Rattle.scratch.specs.Swept.{strict_part, open_part, Both, Swept, none, more, Quiet, Ended}
 use Rattle.scratch.specs.Begun.{Begun}
 use Rattle.scratch.specs.Copies.{Narrowed, InReach, OutOfReach}

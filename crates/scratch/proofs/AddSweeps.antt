@@ -1,134 +1,122 @@
--- What the sweeps of both parts of a scratch keep and how they end: of any plan whose start they were given. Assumes nothing.
-use mathlib.Core.Path.{◌≡◌, refl, sym, ap, subst, ◌∙◌}
+-- What the sweeps of both tables keep and how they end. Assumes nothing.
+use mathlib.Core.Path.{◌≡◌, refl, sym, ap, ◌∙◌}
 use mathlib.Core.Bool.{true, false, true≢false}
-use mathlib.Core.Logic.{◌⊎◌}
+use mathlib.Core.Logic.{◌⊎◌, inl, inr, ⊎_elim}
 use mathlib.Core.List.{List}
 use Prim.Native.Nat.{ℕ, ◌+◌, ◌*◌, ◌≤◌}
 use native.Mathlib.Omega.{arith}
-use lib.ListN.{length}
 use lib.IntN.{ℤ}
-use Rattle.rules.specs.Plan.{Link}
 use Rattle.plan.specs.Layout.{link_at}
+use Rattle.reader.specs.declared.sound.SoundPlan.{SoundPlan}
 use Rattle.cell.specs.Steps.{adding}
-use Rattle.lowering.specs.Table.{Sound, Ready}
-use Rattle.lowering.specs.Sweep.{open_all, case_all, join_all, sweep_strict, sweep_open, heights}
+use Rattle.cell.specs.Widths.{adding_coherent}
+use Rattle.cell.specs.contracts.word.I64Word.TheImpl.{ghosts}
+use Rattle.lowering.specs.Table.{Sound}
+use Rattle.lowering.specs.Sweep.{sweep_strict, sweep_open, heights}
 use Rattle.lowering.specs.Fair.{Fair, Unfair}
 use Rattle.lowering.proofs.Laws.LinksAsRead.{link_points}
 use Rattle.lowering.proofs.Theory.LoweredTables.{Lowered}
-use Rattle.lowering.proofs.Theory.SweepSteps.{strict_lowers, open_lowers, open_sweep_lowers}
+use Rattle.lowering.proofs.Theory.SweepSteps.{strict_lowers, open_sweep_lowers}
 use Rattle.lowering.proofs.Theory.HeightsFall.{lowered_heights, same_heights}
-use Rattle.wide.proofs.AddStart.{adding_coherent}
-use Rattle.scratch.specs.Swept.{strict_part, open_part, Both, Swept, none, more, Quiet, Ended}
-use Rattle.scratch.proofs.ScratchParts.{both_of}
+use Rattle.joining.specs.declared.table.Table.{Table}
+use Rattle.joining.specs.Takes.{Takes}
+use Rattle.scratch.specs.Swept.{Swept, none, more, Settled}
 
--- some sweeps done: both tables are there, and the number is how far they can still fall
-pub record Sweeping (n : ℕ) (link : ℕ → Link) (links : ℕ) (start now : List ℤ) (last : ℕ) : Type 0 where
-  pub both : Both adding n now
-  pub same_length : length now ≡ length start
-  pub swept : Swept adding n link links (strict_part n start) (open_part n start) (strict_part n now) (open_part n now)
-  pub last_is : last ≡ heights adding (n * n) (strict_part n now) + heights adding (n * n) (open_part n now)
+abbrev pub Lent : Type 0
+Lent = Table ℤ ghosts
 
-pub sweeping_none : {n : ℕ} {link : ℕ → Link} {links : ℕ} {t : List ℤ} {last : ℕ} → Both adding n t
-    → last ≡ heights adding (n * n) (strict_part n t) + heights adding (n * n) (open_part n t) → Sweeping n link links t t last
-sweeping_none b e = record { both = b; same_length = refl; swept = none; last_is = e }
+-- some sweeps done, and the number is how far both tables can still fall
+pub record Sweeping (plan : SoundPlan) (strict weak u v : Lent) (last : ℕ) : Type 0 where
+  pub strict_list : u.cells.ghost_name ≡ strict.cells.ghost_name
+  pub strict_size : plan.n ≡ u.n
+  pub open_list : v.cells.ghost_name ≡ weak.cells.ghost_name
+  pub open_size : plan.n ≡ v.n
+  pub swept : Swept adding plan.n (link_at plan.file.now plan.m) plan.k strict.cells.now weak.cells.now u.cells.now v.cells.now
+  pub last_is : last ≡ heights adding (plan.n * plan.n) u.cells.now + heights adding (plan.n * plan.n) v.cells.now
 
-module _ {s : List ℕ} {n m k : ℕ} (r : Ready s n m k) where
-  -- after the strict table's part of a sweep
-  pub both_first : {t u : List ℤ} → Both adding n t → length u ≡ length t → strict_part n u ≡ sweep_strict adding n (link_at s m) k (strict_part n t)
-      → open_part n u ≡ open_part n t → Both adding n u
-  both_first {t} {u} b e es eo =
-      both_of b e
-      (subst (Sound adding n) (sym es) (strict_lowers adding adding_coherent n (link_at s m) k (link_points r) (strict_part n t) b.strict).sound)
-      (subst (Sound adding n) (sym eo) b.weak)
+-- none yet
+pub sweeping_none : {plan : SoundPlan} {u v : Lent} {i j last : ℕ} {s t : List ℤ} → plan.n ≡ u.n → plan.n ≡ v.n
+    → (i ≡ u.n) × (s ≡ u.cells.now) → (j ≡ v.n) × (t ≡ v.cells.now) → last ≡ heights adding (i * i) s + heights adding (j * j) t → Sweeping plan u v u v last
+sweeping_none a b f h e =
+    record { strict_list = refl; strict_size = a; open_list = refl; open_size = b; swept = none; last_is = cc (e, a, b, f.0, f.1, h.0, h.1) }
 
-  -- and once the open table is under it
-  pub both_under : {t u : List ℤ} → Both adding n t → length u ≡ length t → strict_part n u ≡ strict_part n t
-      → open_part n u ≡ open_all adding n (strict_part n t) (open_part n t) → Both adding n u
-  both_under {t} {u} b e es eo =
-      both_of b e (subst (Sound adding n) (sym es) b.strict)
-      (subst (Sound adding n) (sym eo) (open_lowers adding adding_coherent n (strict_part n t) (open_part n t) b.weak).sound)
+module _ {plan : SoundPlan} {strict weak u v u' v' : Lent} {last : ℕ} (g : Sweeping plan strict weak u v last)
+    (a : Takes (sweep_strict adding plan.n (link_at plan.file.now plan.m) plan.k) u u')
+    (b : Takes (sweep_open adding plan.n (link_at plan.file.now plan.m) plan.k u'.cells.now) v v') where
+  strict_sound : Sound adding plan.n u.cells.now
+  strict_sound = rw g.strict_size u.sound
 
-  -- the three parts are a sweep
-  pub open_swept : (t t₁ t₂ t₃ : List ℤ) → open_part n t₁ ≡ open_part n t → strict_part n t₂ ≡ strict_part n t₁
-      → open_part n t₂ ≡ open_all adding n (strict_part n t₁) (open_part n t₁) → strict_part n t₃ ≡ strict_part n t₂
-      → open_part n t₃ ≡ join_all adding n (case_all adding n (link_at s m) k (open_part n t₂))
-      → open_part n t₃ ≡ sweep_open adding n (link_at s m) k (strict_part n t₃) (open_part n t)
-  unfolding sweep_open
-  open_swept t t₁ t₂ t₃ e₁ s₂ e₂ s₃ e₃ = rw (e₃, e₂, e₁, s₃, s₂)
+  open_sound : Sound adding plan.n v.cells.now
+  open_sound = rw g.open_size v.sound
 
-  module _ (t u : List ℤ) (b : Both adding n t) (es : strict_part n u ≡ sweep_strict adding n (link_at s m) k (strict_part n t))
-      (eo : open_part n u ≡ sweep_open adding n (link_at s m) k (strict_part n u) (open_part n t)) where
-    strict_down : Lowered adding n (strict_part n t) (strict_part n u)
-    strict_down =
-        subst (Lowered adding n (strict_part n t)) (sym es)
-        (strict_lowers adding adding_coherent n (link_at s m) k (link_points r) (strict_part n t) b.strict)
+  strict_down : Lowered adding plan.n u.cells.now u'.cells.now
+  strict_down = rw a.cells (strict_lowers adding adding_coherent plan.n _ plan.k (link_points plan.ready) u.cells.now strict_sound)
 
-    open_down : Lowered adding n (open_part n t) (open_part n u)
-    open_down =
-        subst (Lowered adding n (open_part n t)) (sym eo)
-        (open_sweep_lowers adding adding_coherent n (link_at s m) k (link_points r) (strict_part n u) (open_part n t) b.weak)
+  open_down : Lowered adding plan.n v.cells.now v'.cells.now
+  open_down = rw b.cells (open_sweep_lowers adding adding_coherent plan.n _ plan.k (link_points plan.ready) u'.cells.now v.cells.now open_sound)
 
-    -- after a sweep there are both tables again
-    pub both_swept : length u ≡ length t → Both adding n u
-    both_swept e = both_of b e strict_down.sound open_down.sound
+  strict_fall : heights adding (plan.n * plan.n) u'.cells.now ≤ heights adding (plan.n * plan.n) u.cells.now
+  strict_fall = lowered_heights adding plan.n u.cells.now u'.cells.now strict_sound strict_down
 
-    -- the heights fall or stay
-    pub heights_fall : heights adding (n * n) (strict_part n u) + heights adding (n * n) (open_part n u)
-        ≤ heights adding (n * n) (strict_part n t) + heights adding (n * n) (open_part n t)
-    heights_fall =
-        omega (
-          arith,
-          lowered_heights adding n (strict_part n t) (strict_part n u) b.strict strict_down,
-          lowered_heights adding n (open_part n t) (open_part n u) b.weak open_down,
-        )
+  open_fall : heights adding (plan.n * plan.n) v'.cells.now ≤ heights adding (plan.n * plan.n) v.cells.now
+  open_fall = lowered_heights adding plan.n v.cells.now v'.cells.now open_sound open_down
 
-    -- where they stay, a sweep changes nothing
-    pub heights_stay : heights adding (n * n) (strict_part n u) + heights adding (n * n) (open_part n u)
-        ≡ heights adding (n * n) (strict_part n t) + heights adding (n * n) (open_part n t)
-        → Fair adding n (strict_part n u) → Fair adding n (open_part n u) → Quiet adding n (link_at s m) k (strict_part n u) (open_part n u)
-    heights_stay e fs fo =
-        let ls : heights adding (n * n) (strict_part n u) ≤ heights adding (n * n) (strict_part n t) =
-        lowered_heights adding n (strict_part n t) (strict_part n u) b.strict strict_down in
-        let lo : heights adding (n * n) (open_part n u) ≤ heights adding (n * n) (open_part n t) =
-        lowered_heights adding n (open_part n t) (open_part n u) b.weak open_down in
-        let us : strict_part n u ≡ strict_part n t = same_heights adding n (strict_part n t) (strict_part n u) b.strict strict_down (omega arith) in
-        let uo : open_part n u ≡ open_part n t = same_heights adding n (open_part n t) (open_part n u) b.weak open_down (omega arith) in
-        record {
-          strict_same = ap (sweep_strict adding n (link_at s m) k) us ∙ sym es;
-          open_same = ap (sweep_open adding n (link_at s m) k (strict_part n u)) uo ∙ sym eo;
-          strict_fair = fs;
-          open_fair = fo;
-        }
+  swept_more : Swept adding plan.n (link_at plan.file.now plan.m) plan.k strict.cells.now weak.cells.now u'.cells.now v'.cells.now
+  swept_more = more g.swept a.cells b.cells
 
-  module _ {start now : List ℤ} {last : ℕ} (u : List ℤ) (w : Sweeping n (link_at s m) k start now last) (el : length u ≡ length now)
-      (e : (strict_part n u ≡ sweep_strict adding n (link_at s m) k (strict_part n now))
-      × (open_part n u ≡ sweep_open adding n (link_at s m) k (strict_part n u) (open_part n now))) where
-    -- one sweep more
-    pub sweeping_both : Both adding n u
-    sweeping_both = both_swept now u w.both e.0 e.1 el
+  -- looks at both tables after the sweep
+  module _ {i j : ℕ} {s t : List ℤ} (f : (i ≡ u'.n) × (s ≡ u'.cells.now)) (h : (j ≡ v'.n) × (t ≡ v'.cells.now)) where
+    strict_size : plan.n ≡ i
+    strict_size = g.strict_size ∙ (sym a.same_size ∙ sym f.0)
 
-    pub sweeping_length : length u ≡ length start
-    sweeping_length = el ∙ w.same_length
+    open_size : plan.n ≡ j
+    open_size = g.open_size ∙ (sym b.same_size ∙ sym h.0)
 
-    swept_more : Swept adding n (link_at s m) k (strict_part n start) (open_part n start) (strict_part n u) (open_part n u)
-    swept_more = more w.swept e.0 e.1
-
-    pub sweeping_more : {next : ℕ} → next ≡ heights adding (n * n) (strict_part n u) + heights adding (n * n) (open_part n u)
-        → Sweeping n (link_at s m) k start u next
-    sweeping_more f = record { both = sweeping_both; same_length = sweeping_length; swept = swept_more; last_is = f }
-
-    pub sweeping_falls : {next : ℕ} → next ≡ heights adding (n * n) (strict_part n u) + heights adding (n * n) (open_part n u) → next ≤ last
-    sweeping_falls f = omega (arith, heights_fall now u w.both e.0 e.1, w.last_is)
-
-    -- how they end
-    pub ended_no : Unfair adding n (strict_part n u) ⊎ Unfair adding n (open_part n u) → Ended adding n (link_at s m) k start u false
-    ended_no b = record { swept = swept_more; quiet = λ f. absurd (true≢false (sym f)); against = λ _. b }
-
-    pub ended_yes : {next : ℕ} → next ≡ heights adding (n * n) (strict_part n u) + heights adding (n * n) (open_part n u) → next ≡ last
-        → Fair adding n (strict_part n u) × Fair adding n (open_part n u) → Ended adding n (link_at s m) k start u true
-    ended_yes f g b =
+    -- one of them speaks against the plan
+    pub settled_no : Unfair adding i s ⊎ Unfair adding j t
+        → Settled adding plan.n (link_at plan.file.now plan.m) plan.k strict.cells.now weak.cells.now u'.cells.now v'.cells.now false
+    settled_no o =
         record {
           swept = swept_more;
-          quiet = λ _. heights_stay now u w.both e.0 e.1 (sym f ∙ (g ∙ w.last_is)) b.0 b.1;
-          against = λ h. absurd (true≢false h);
+          quiet = λ q. absurd (true≢false (sym q));
+          against = λ _. ⊎_elim (λ x. inl (rw (strict_size, ← f.1) x)) (λ x. inr (rw (open_size, ← h.1) x)) o;
         }
+
+    module _ {next : ℕ} (e : next ≡ heights adding (i * i) s + heights adding (j * j) t) where
+      next_is : next ≡ heights adding (plan.n * plan.n) u'.cells.now + heights adding (plan.n * plan.n) v'.cells.now
+      next_is = cc (e, strict_size, open_size, f.1, h.1)
+
+      -- one sweep more
+      pub sweeping_more : Sweeping plan strict weak u' v' next
+      sweeping_more =
+          record {
+            strict_list = a.same_list ∙ g.strict_list;
+            strict_size = g.strict_size ∙ sym a.same_size;
+            open_list = b.same_list ∙ g.open_list;
+            open_size = g.open_size ∙ sym b.same_size;
+            swept = swept_more;
+            last_is = next_is;
+          }
+
+      -- the heights fall or stay
+      pub sweeping_falls : next ≤ last
+      sweeping_falls = omega (arith, strict_fall, open_fall, g.last_is, next_is)
+
+      -- where they stay, a sweep changes nothing
+      pub settled_yes : next ≡ last → Fair adding i s → Fair adding j t
+          → Settled adding plan.n (link_at plan.file.now plan.m) plan.k strict.cells.now weak.cells.now u'.cells.now v'.cells.now true
+      settled_yes k fs fo =
+          let us : u'.cells.now ≡ u.cells.now =
+          same_heights adding plan.n u.cells.now u'.cells.now strict_sound strict_down (omega (arith, strict_fall, open_fall, g.last_is, next_is)) in
+          let uo : v'.cells.now ≡ v.cells.now =
+          same_heights adding plan.n v.cells.now v'.cells.now open_sound open_down (omega (arith, strict_fall, open_fall, g.last_is, next_is)) in
+          record {
+            swept = swept_more;
+            quiet = λ _. record {
+              strict_same = ap (sweep_strict adding plan.n _ plan.k) us ∙ sym a.cells;
+              open_same = ap (sweep_open adding plan.n _ plan.k u'.cells.now) uo ∙ sym b.cells;
+              strict_fair = rw (strict_size, ← f.1) fs;
+              open_fair = rw (open_size, ← h.1) fo;
+            };
+            against = λ q. absurd (true≢false q);
+          }

@@ -9,12 +9,7 @@ use Rattle.cell.specs.Steps.{cell32, cell64}
 abbrev pub SameCells : ℕ → List ℤ → List ℤ → Type 0
 SameCells m wide narrow = (i : ℕ) → i < m → cell64 (get_or wide i (pos zero)) ≡ cell32 (get_or narrow i (pos zero))
 
--- the first cells of a 64-bit list are those of a 32-bit one, and no other changed
-pub record Widened (m : ℕ) (narrow before after : List ℤ) : Type 0 where
-  pub same : SameCells m after narrow
-  pub kept : Kept m before after
-
--- the other way
+-- the first cells of a 32-bit list are those of a 64-bit one, and no other changed
 pub record Narrowed (m : ℕ) (wide before after : List ℤ) : Type 0 where
   pub same : SameCells m wide after
   pub kept : Kept m before after

@@ -31,8 +31,12 @@ pub record Quiet (r : Ranges) (n : ℕ) (link : ℕ → Link) (links : ℕ) (u v
   pub strict_fair : Fair r n u
   pub open_fair : Fair r n v
 
--- sweeps until both tables stay, with true, or until one of them speaks against the plan, with false
-pub record Ended (r : Ranges) (n : ℕ) (link : ℕ → Link) (links : ℕ) (t u : List ℤ) (b : Bool) : Type 0 where
-  pub swept : Swept r n link links (strict_part n t) (open_part n t) (strict_part n u) (open_part n u)
-  pub quiet : b ≡ true → Quiet r n link links (strict_part n u) (open_part n u)
-  pub against : b ≡ false → Unfair r n (strict_part n u) ⊎ Unfair r n (open_part n u)
+-- sweeps of two tables until both stay, with true, or until one of them speaks against the plan, with false
+pub record Settled (r : Ranges) (n : ℕ) (link : ℕ → Link) (links : ℕ) (strict weak u v : List ℤ) (b : Bool) : Type 0 where
+  pub swept : Swept r n link links strict weak u v
+  pub quiet : b ≡ true → Quiet r n link links u v
+  pub against : b ≡ false → Unfair r n u ⊎ Unfair r n v
+
+-- the same of both parts of a scratch
+abbrev pub Ended : Ranges → ℕ → (ℕ → Link) → ℕ → List ℤ → List ℤ → Bool → Type 0
+Ended r n link links t u b = Settled r n link links (strict_part n t) (open_part n t) (strict_part n u) (open_part n u) b

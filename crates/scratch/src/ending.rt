@@ -6,15 +6,6 @@ ghost use Rattle.scratch.specs.Copies.{Narrowed, InReach};
 
 use crate::copies::{clear, narrow};
 
-// The open table's part into a 32-bit table.
-fn narrow_open(t: &[i64], table: &mut [i32], n: usize)
-    requires { (n ≤ 64) × (n * n + n * n ≤ length t.now) × (n * n ≤ length table.old) × InReach (n * n + n * n) t.now }
-    ensures { Narrowed (n * n) (open_part n t.now) table.old table.new }
-{
-    let cells = n * n;
-    narrow(&t[cells..], table, cells);
-}
-
 // Both parts into both tables.
 pub fn finish(t: &mut [i64], strict: &mut [i32], open: &mut [i32], n: usize)
     requires { (n ≤ 64) × (n * n + n * n ≤ length t.old) × (n * n ≤ length strict.old) × (n * n ≤ length «open».old) × InReach (n * n + n * n) t.old }
@@ -22,6 +13,6 @@ pub fn finish(t: &mut [i64], strict: &mut [i32], open: &mut [i32], n: usize)
 {
     let cells = n * n;
     narrow(t, strict, cells);
-    narrow_open(t, open, n);
+    narrow(&t[cells..], open, cells);
     clear(t, cells + cells);
 }

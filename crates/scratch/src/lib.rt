@@ -1,5 +1,5 @@
-// Add's work in a lent scratch of 64-bit cells: the strict table of Add's plan in its first n x n cells, the open one in the next n x n. Functions on one table are
-// lent its part.
+// Add's work in a lent scratch of 64-bit cells: the strict table of Add's plan in its first n x n cells, the open one in the next n x n. Both parts are lent
+// as tables.
 #![tactic(auto)]
 
 mod copies;
@@ -7,6 +7,7 @@ mod ending;
 mod opening;
 mod settling;
 mod starting;
+mod sweeps;
 
 pub use copies::{all_in_reach, clear};
 pub use ending::finish;
