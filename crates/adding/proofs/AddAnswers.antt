@@ -89,7 +89,7 @@ module _ {s : List ℕ} {n m k : ℕ} {l : Limit} {strict weak t : List ℤ} (rd
           (start_both (plan_of s) (ready_in_range s n m k rd) (link_at s m) k (ready_links s n m k rd) l limit_there strict weak
           closed_there t t₁ room_there begun_there eb)
 
-      module _ {t₂ : List ℤ} {r : Bool} (d : Ended adding n (link_at s m) k t₁ t₂ r) (ed : length t₂ ≡ length t₁) where
+      module _ (t₂ : List ℤ) (r : Bool) (d : Ended adding n (link_at s m) k t₁ t₂ r) (ed : length t₂ ≡ length t₁) where
         ended_there : Ended adding (plan_of s).points (link_at s m) k t₁ t₂ r
         ended_there = subst⁻¹ (λ (o : ℕ). Ended adding o (link_at s m) k t₁ t₂ r) e d
 

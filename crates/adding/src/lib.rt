@@ -30,7 +30,7 @@ fn sweeps(
     let n = plan.n;
     let room = n * n + n * n;
     begin(strict, cells, n, l);
-    if !settle(plan.file, n, plan.m, plan.k, cells) {
+    if !settle(plan, cells) {
         clear(cells, room); // a refusal leaves no trace
         return Err(Refusal::NotControllable);
     }
@@ -53,7 +53,7 @@ fn add_to(
     requires { Lent plan.file.now plan.n (limit_of l) strict.old «open».old cells.old }
     ensures { Added version1 (add_answer plan.entry.file.now (limit_of l)) (plan_of plan.entry.file.now) (limit_of l) strict.old «open».old cells.old result strict.new «open».new cells.new }
 {
-    if !closed(plan.file, plan.n, plan.m, plan.k, strict, open) {
+    if !closed(plan, strict, open) {
         clear(cells, plan.n * plan.n + plan.n * plan.n);
         return Err(Refusal::NotClosed);
     }

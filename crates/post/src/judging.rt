@@ -6,7 +6,7 @@ ghost use Rattle.plan.specs.Layout.{plan_of};
 ghost use Rattle.plan.specs.File.{file_answer};
 ghost use Rattle.post.specs.Lent.{Lent};
 
-use first::mark_all;
+use joining::mark_all;
 use reader::{SoundPlan, read};
 use rules::{Answer, Refusal};
 use tables::settle;
@@ -28,7 +28,7 @@ fn judge_sound(plan: SoundPlan, strict: &mut [i32], open: &mut [i32]) -> Answer
     requires { (plan.n * plan.n ≤ length strict.old) × (plan.n * plan.n ≤ length «open».old) }
     ensures { Judged version1 (file_answer plan.entry.file.now) (plan_of plan.entry.file.now) strict.old «open».old result strict.new «open».new }
 {
-    if settle(plan.file, plan.n, plan.m, plan.k, strict, open) {
+    if settle(plan, strict, open) {
         return Ok(());
     }
     let cells = plan.n * plan.n;

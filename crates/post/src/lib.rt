@@ -33,7 +33,7 @@ pub fn check(file: &[u8], strict: &[i32], open: &[i32]) -> Answer
     ensures { Checked version1 (file_answer file.now) (plan_of file.now) strict.now «open».now result }
 {
     let plan = lent(file, strict.len(), open.len())?;
-    if !closed(plan.file, plan.n, plan.m, plan.k, strict, open) {
+    if !closed(plan, strict, open) {
         return Err(Refusal::NotClosed);
     }
     Ok(())
