@@ -4,14 +4,14 @@
 
 use cell::wide::Cell64;
 
+mod bests;
 mod given;
 mod joins;
-mod pairs;
 mod rules_of;
 
+pub use bests::{Bests, kept, no_draft, spot, weights_of};
 pub use given::{limit_draft, link_draft, start_draft};
 pub use joins::{join_draft, next_join};
-pub use pairs::{kept, no_draft, spot, weight_at};
 pub use rules_of::{lower_draft, upper_draft};
 
 // A line that may be written; of kind 0 where there is none.
