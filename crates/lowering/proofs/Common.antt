@@ -8,6 +8,7 @@ pub use lib.IntN.{pos}
 pub use lib.ListN.{get_or, length}
 pub use borrow.Author.Rules.{rules}
 pub use borrow.Author.Tests.{not-false, not-true}
+pub use mir.Syntax.{w32, w64}
 pub use Rattle.whole.proofs.Bits.{back}
 pub use Rattle.whole.proofs.Place.{inside, square_le, within}
 pub use Rattle.rules.specs.Cells.{Within, ◌≤ᶜ◌, num, table_of}
@@ -19,7 +20,7 @@ pub use Rattle.plan.specs.Layout.{limit_at, link_at}
 pub use Rattle.plan.specs.Values.{link_of}
 pub use Rattle.cell.specs.Steps.{cell32, cell64}
 unfoldable pub use Rattle.cell.specs.Steps.{adding}
-pub use Rattle.cell.proofs.CellMethods.{is_mark_lem as mark-read}
+pub use Rattle.cell.proofs.CellMethods.{is_mark_lem as mark-read, passed}
 pub use Rattle.cell.proofs.StoredCells.{number_of_lem, spread_is}
 unfoldable pub use Rattle.lowering.specs.Spread.{case_edge, lower_edges, row_by, upper_edges, upper_round}
 pub use Rattle.lowering.specs.Sweep.{join_cell, join_row, lower_cell}
@@ -37,6 +38,6 @@ pub use Rattle.lowering.proofs.Laws.LoopTurns.{Stretch, Turns, and_after, before
 pub use Rattle.lowering.proofs.Laws.LoopTurns.{read_cell, read_stored, row_at_mark, stretch_all, stretch_more, stretch_none, turns_all}
 pub use Rattle.lowering.proofs.Laws.LoopTurns.{turns_more, turns_none}
 pub use Rattle.lowering.proofs.Laws.ReadyFile.{limit_range, link_range}
-pub use Rattle.lowering.proofs.Laws.TestLoops.{Passed, all_passed, none_yet, one_failed, one_more, passed_all}
+pub use Rattle.lowering.proofs.Laws.TestLoops.{Passed, passes, all_passed, none_yet, one_failed, one_more, passed_all}
 pub use Rattle.lowering.proofs.Theory.SpreadSteps.{spread_row_lowers}
 pub use Rattle.lowering.proofs.Theory.SweepSteps.{cell_lowers, diagonal_lowers, middle_lowers, row_lowers}

@@ -1,0 +1,2 @@
+-- Laws that the methods of a lent table cite.
+pub mod Taking

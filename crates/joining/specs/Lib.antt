@@ -1,0 +1,3 @@
+-- Lent: that a table is sound in one way only. Takes: what a step does to a lent table.
+pub mod Lent
+pub mod Takes
