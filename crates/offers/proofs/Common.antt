@@ -8,6 +8,8 @@ pub use lib.ListN.{get_or}
 pub use lib.IntN.{pos}
 pub use Rattle.offers.specs.Work.{part_of, spot_of}
 pub use native.Mathlib.Omega.{arith}
+pub use mir.Syntax.{w64}
+pub use mir.Val.{to_z, of_z}
 pub use borrow.Author.Rules.{rules}
 pub use borrow.Author.Tests.{not-false, not-true}
 pub use Rattle.whole.proofs.Place.{inside, square_le}

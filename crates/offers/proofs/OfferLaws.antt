@@ -22,7 +22,6 @@ use Rattle.cell.specs.Steps.{adding, roomy, cell64, belowᶜ, Stored, number_of}
 use Rattle.cell.proofs.CellMethods.{number_is, mark_is}
 use Rattle.rules.proofs.Cells.{same_number}
 use Rattle.cell.proofs.StoredCells.{within_stored, number_of_lem}
-use Rattle.cell.specs.declared.wide.Cell64.{Cell64}
 use Rattle.chain.specs.Lines.{Line, Best, none, still, made, beats, best, weight_of, line_of, cells}
 use Rattle.chain.specs.Reasons.{Offer, nothing, line, always, side_of, write, try, joined}
 use Rattle.chain.proofs.BestLines.{still_same}
@@ -174,11 +173,11 @@ lowers_read n work part y x j a b c s ea eb ec es et = rw (← ea, ← eb, ← e
 -- ---- what a try adds
 
 -- an ordinary line, kept or not by the test of its weight against the strict cell
-module _ (n : ℕ) (work : List ℤ) (d : Draft) (w c : ℤ) (p : Plain n d) (ew : w ≡ d.weight.v) (ec : c ≡ get_or work (spot_of n 0 d.from d.to) (pos 0)) where
+module _ (n : ℕ) (work : List ℤ) (d : Draft) (w c : ℤ) (p : Plain n d) (ew : w ≡ d.weight) (ec : c ≡ get_or work (spot_of n 0 d.from d.to) (pos 0)) where
   side_cell : (ls : List Line) → Standing n ls work → cells (side_of d.kind) ls d.from d.to ≡ cell64 c
   side_cell ls t = rw p.strict (sym (weight_read t Strict d.from d.to p.notable.from p.notable.to) ∙ ap cell64 (sym ec))
 
-  weight_cell : cell64 w ≡ num d.weight.v
+  weight_cell : cell64 w ≡ num d.weight
   weight_cell = rw ew p.notable.number
 
   pub kept_yes : {t : Bool} → t ≡ belowᶜ (cell64 w) (cell64 c) → t ≡ true → (offer : List Line → Offer) → Offers n work offer d → Adds n work offer d
@@ -224,8 +223,8 @@ sum_number n work part x y z low a b w ea eb ew =
 
 -- the join that was made of two bests as they were read
 module _ (n : ℕ) (work : List ℤ) (s : Side) (kind x y z : ℕ) (hx : x < n) (hy : y < n) (hz : z < n) (hk : 1 ≤ kind) (lower : lowers_by n work (part_of s) y x z ≡ true)
-    (a b : ℤ) (w : Cell64) (ea : a ≡ get_or work (spot_of n (part_of s) x y) (pos 0)) (eb : b ≡ get_or work (spot_of n (part_of s) y z) (pos 0))
-    (ew : cell64 w.v ≡ cell64 a +ᶜ cell64 b) (f g : ℕ) where
+    (a b : ℤ) (w : ℤ) (ea : a ≡ get_or work (spot_of n (part_of s) x y) (pos 0)) (eb : b ≡ get_or work (spot_of n (part_of s) y z) (pos 0))
+    (ew : cell64 w ≡ cell64 a +ᶜ cell64 b) (f g : ℕ) where
   pub join_made : ((v : ℕ) → get_or work (spot_of n (suc (part_of s)) x y) (pos 0) ≡ pos v → f ≡ v)
       → ((v : ℕ) → get_or work (spot_of n (suc (part_of s)) y z) (pos 0) ≡ pos v → g ≡ v) → (ls : List Line) → Standing n ls work
       → joined kind x z (best s x y ls) (best s y z ls) ≡ offer_of (record { kind = kind; from = x; to = z; weight = w; first = f; second = g })
@@ -234,11 +233,11 @@ module _ (n : ℕ) (work : List ℤ) (s : Side) (kind x y z : ℕ) (hx : x < n) 
       let yz = weight_read t s y z hy hz in
       let xz = weight_read t s x z hx hz in
       let low : belowᶜ (cells s ls x y +ᶜ cells s ls y z) (cells s ls x z) ≡ true = rw (← xy, ← yz, ← xz) lower in
-      let sum : cell64 w.v ≡ cells s ls x y +ᶜ cells s ls y z = rw (← xy, ← yz, ← ea, ← eb) ew in
+      let sum : cell64 w ≡ cells s ls x y +ᶜ cells s ls y z = rw (← xy, ← yz, ← ea, ← eb) ew in
       let first : f ≡ line_of (best s x y ls) = lf (line_of (best s x y ls)) (t.holds.line s x y hx hy) in
       let second : g ≡ line_of (best s y z ls) = lg (line_of (best s y z ls)) (t.holds.line s y z hy hz) in
       let some : eqb kind 0 ≡ false = ne_eqb kind 0 (λ e. omega arith) in
-      join_some s kind x y z ls low w.v (below_number (cells s ls x y +ᶜ cells s ls y z) (cells s ls x z) sum low) ∙ rw (some, first, second)
+      join_some s kind x y z ls low w (below_number (cells s ls x y +ᶜ cells s ls y z) (cells s ls x z) sum low) ∙ rw (some, first, second)
 
 -- no line can be noted, and is an ordinary one
 pub nothing_plain : {n x : ℕ} {d : Draft} → x < n → Nothing d → Plain n d

@@ -9,7 +9,7 @@ use Rattle.offers.specs.declared.Draft.{Draft}
 use Rattle.offers.specs.Work.{weight_in, Standing}
 
 abbrev pub made_of : Draft → Line
-made_of d = record { kind = d.kind; from = d.from; to = d.to; weight = d.weight.v; first = d.first; second = d.second }
+made_of d = record { kind = d.kind; from = d.from; to = d.to; weight = d.weight; first = d.first; second = d.second }
 
 -- what it offers
 abbrev pub offer_of : Draft → Offer
@@ -31,7 +31,7 @@ Adds n work offer d = (ls : List Line) → Standing n ls work → try offer ls �
 pub record Notable (n : ℕ) (d : Draft) : Type 0 where
   pub from : d.from < n
   pub to : d.to < n
-  pub number : cell64 d.weight.v ≡ num d.weight.v
+  pub number : cell64 d.weight ≡ num d.weight
 
 -- and that is written only if it beats the strict pair's best
 pub record Plain (n : ℕ) (d : Draft) : Type 0 where
@@ -44,7 +44,7 @@ pub record Nothing (d : Draft) : Type 0 where
   pub kind : d.kind ≡ 0
   pub from : d.from ≡ 0
   pub to : d.to ≡ 0
-  pub weight : d.weight.v ≡ pos 0
+  pub weight : d.weight ≡ pos 0
 
 -- whether a join by the middle y lowers the cell from x to z
 abbrev pub lowers_by : ℕ → List ℤ → ℕ → ℕ → ℕ → ℕ → Bool

@@ -6,7 +6,7 @@ ghost use Rattle.offers.specs.Work.{spot_of, part_of, Known};
 ghost use Rattle.offers.specs.Drafts.{Offers, Adds, Notable, Plain, Nothing};
 
 use crate::Draft;
-use cell::wide::Cell64;
+use cell::Word;
 use reader::SoundPlan;
 use rules::Side;
 
@@ -38,13 +38,11 @@ pub struct Bests<'a> {
 
 impl<'a> Bests<'a> {
     // The weight of the pair's best.
-    pub fn weight(self, side: Side, x: u32, y: u32) -> Cell64
+    pub fn weight(self, side: Side, x: u32, y: u32) -> i64
         requires { (x < self.plan.n) × (y < self.plan.n) }
-        ensures { result.v ≡ get_or self.entry.cells.now (spot_of self.entry.plan.n (part_of side) x y) (pos 0) }
+        ensures { result ≡ get_or self.entry.cells.now (spot_of self.entry.plan.n (part_of side) x y) (pos 0) }
     {
-        Cell64 {
-            v: self.cells[spot(self.plan.n, weights_of(side), x, y)],
-        }
+        self.cells[spot(self.plan.n, weights_of(side), x, y)]
     }
 
     // The number of its line.
@@ -52,8 +50,7 @@ impl<'a> Bests<'a> {
         requires { (x < self.plan.n) × (y < self.plan.n) × Known self.plan.n self.cells.now }
         ensures { (v : ℕ) → get_or self.entry.cells.now (spot_of self.entry.plan.n (suc (part_of side)) x y) (pos 0) ≡ pos v → result ≡ v }
     {
-        let v = self.cells[spot(self.plan.n, weights_of(side) + 1, x, y)];
-        Cell64 { v }.number()
+        self.cells[spot(self.plan.n, weights_of(side) + 1, x, y)].up()
     }
 }
 
@@ -65,7 +62,7 @@ pub fn no_draft() -> Draft
         kind: 0,
         from: 0,
         to: 0,
-        weight: Cell64::of(0),
+        weight: 0,
         first: 0,
         second: 0,
     }

@@ -6,8 +6,7 @@ ghost use Rattle.chain.specs.Reasons.{link_offer, always};
 ghost use Rattle.offers.specs.Drafts.{made_of, offer_of, Notable};
 
 use crate::Draft;
-use cell::Cell32;
-use cell::wide::Cell64;
+use cell::{Word, widened};
 use reader::SoundPlan;
 
 // The start edge of a point.
@@ -18,7 +17,7 @@ pub fn start_draft(x: u32) -> Draft
         kind: 1,
         from: x,
         to: 0,
-        weight: Cell64::of(0),
+        weight: i64::of(0),
         first: 0,
         second: 0,
     }
@@ -34,7 +33,7 @@ pub fn limit_draft(plan: SoundPlan, i: u32) -> Draft
         kind: 2,
         from: l.from,
         to: l.to,
-        weight: Cell64::widened(Cell32 { v: l.weight }),
+        weight: widened(l.weight),
         first: i as u64,
         second: 0,
     }
@@ -51,7 +50,7 @@ pub fn link_draft(plan: SoundPlan, i: u32, c: u32) -> Draft
             kind: 3,
             from: a.act,
             to: a.con,
-            weight: Cell64::of(a.long),
+            weight: i64::of(a.long),
             first: i as u64,
             second: 0,
         };
@@ -61,7 +60,7 @@ pub fn link_draft(plan: SoundPlan, i: u32, c: u32) -> Draft
             kind: 4,
             from: a.con,
             to: a.act,
-            weight: Cell64::of(a.short).negated(),
+            weight: i64::of(a.short).negated(),
             first: i as u64,
             second: 0,
         };
@@ -70,7 +69,7 @@ pub fn link_draft(plan: SoundPlan, i: u32, c: u32) -> Draft
         kind: 5,
         from: a.act,
         to: a.con,
-        weight: Cell64::of(a.short),
+        weight: i64::of(a.short),
         first: i as u64,
         second: 0,
     }

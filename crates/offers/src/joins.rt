@@ -7,6 +7,7 @@ ghost use Rattle.offers.specs.Drafts.{offer_of, Notable, lowers_by, NextJoin};
 
 use crate::Draft;
 use crate::bests::Bests;
+use cell::Word;
 use rules::Side;
 
 // The first column from z on at which a join by the middle y lowers row x, or none; with the cell x to y taken out of the loop.

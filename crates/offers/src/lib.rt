@@ -2,8 +2,6 @@
 // far (specs/Work.antt), a draft is a line that may be written (specs/Drafts.antt).
 #![tactic(auto)]
 
-use cell::wide::Cell64;
-
 mod bests;
 mod given;
 mod joins;
@@ -20,7 +18,7 @@ pub struct Draft {
     pub kind: u32,
     pub from: u32,
     pub to: u32,
-    pub weight: Cell64,
+    pub weight: i64,
     pub first: u64,
     pub second: u64,
 }

@@ -7,6 +7,7 @@ ghost use Rattle.offers.specs.Drafts.{Offers, Plain};
 
 use crate::Draft;
 use crate::bests::{Bests, no_draft};
+use cell::Word;
 use rules::Side;
 
 // Lower of link i and the second link j, with g lines before those of the links.

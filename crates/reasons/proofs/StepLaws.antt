@@ -286,7 +286,7 @@ start_plain {n} {x} {d} h e =
     let kind : d.kind ≡ 1 = ap (λ (l : Line). l.kind) e in
     let from : d.from ≡ x = ap (λ (l : Line). l.from) e in
     let to : d.to ≡ 0 = ap (λ (l : Line). l.to) e in
-    let weight : d.weight.v ≡ pos 0 = ap (λ (l : Line). l.weight) e in
+    let weight : d.weight ≡ pos 0 = ap (λ (l : Line). l.weight) e in
     record {
       notable = record { from = omega arith; to = omega arith; number = rw weight (number_is adding.mark (pos 0) (omega ints)) };
       ordinary = rw kind;
@@ -300,7 +300,7 @@ limit_plain {s} {n} {m} {k} {i} {d} r h e =
     let kind : d.kind ≡ 2 = ap (λ (l : Line). l.kind) e in
     let from : d.from ≡ (limit_at s i).from = ap (λ (l : Line). l.from) e in
     let to : d.to ≡ (limit_at s i).to = ap (λ (l : Line). l.to) e in
-    let weight : d.weight.v ≡ (limit_at s i).weight = ap (λ (l : Line). l.weight) e in
+    let weight : d.weight ≡ (limit_at s i).weight = ap (λ (l : Line). l.weight) e in
     record {
       notable = record {
         from = omega (arith, q.from);

@@ -142,24 +142,24 @@ pub closes_other : (d : Draft) → d.from ≢ d.to → closes_of d ≡ false
 unfolding closes_of
 closes_other d n = by (eqb d.kind 0)
   where
-    by : (b : Bool) → cond b false (eqb d.from d.to && lt_z d.weight.v (pos 0)) ≡ false
+    by : (b : Bool) → cond b false (eqb d.from d.to && lt_z d.weight (pos 0)) ≡ false
     by true = refl
     by false = rw (ne_eqb d.from d.to n)
 
 -- else its weight says it
-pub closes_weight : (d : Draft) (z : ℤ) {t : Bool} → d.kind ≢ 0 → d.from ≡ d.to → cell64 d.weight.v ≡ num d.weight.v → z ≡ pos 0
-    → t ≡ belowᶜ (cell64 d.weight.v) (cell64 z) → t ≡ closes_of d
+pub closes_weight : (d : Draft) (z : ℤ) {t : Bool} → d.kind ≢ 0 → d.from ≡ d.to → cell64 d.weight ≡ num d.weight → z ≡ pos 0
+    → t ≡ belowᶜ (cell64 d.weight) (cell64 z) → t ≡ closes_of d
 unfolding closes_of adding
 closes_weight d z k e n q t =
     rw (ne_eqb d.kind 0 k, eq-eqb d.from d.to e)
-    (t ∙ ap (λ (c : Cell). belowᶜ c (cell64 z)) n ∙ ap (λ (c : Cell). belowᶜ (num d.weight.v) c) (ap cell64 q ∙ number_is adding.mark (pos 0) (omega ints)))
+    (t ∙ ap (λ (c : Cell). belowᶜ c (cell64 z)) n ∙ ap (λ (c : Cell). belowᶜ (num d.weight) c) (ap cell64 q ∙ number_is adding.mark (pos 0) (omega ints)))
 
 -- whether the list has ended then
 pub closes_is : (d : Draft) (ls : List Line) → ended ls ≡ false → ended (added d ls) ≡ closes_of d
 unfolding closes_of
 closes_is d ls g = by (eqb d.kind 0)
   where
-    by : (b : Bool) → ended (cond b ls (made_of d ∷ ls)) ≡ cond b false (eqb d.from d.to && lt_z d.weight.v (pos 0))
+    by : (b : Bool) → ended (cond b ls (made_of d ∷ ls)) ≡ cond b false (eqb d.from d.to && lt_z d.weight (pos 0))
     by true = g
     by false = refl
 

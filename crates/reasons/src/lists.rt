@@ -46,7 +46,7 @@ impl Lists<'_> {
         self.kinds[i] = d.kind;
         self.froms[i] = d.from;
         self.tos[i] = d.to;
-        self.weights[i] = d.weight.v;
+        self.weights[i] = d.weight;
         self.firsts[i] = (d.first % 4294967296) as u32;
         self.seconds[i] = (d.second % 4294967296) as u32;
     }

@@ -7,7 +7,7 @@ ghost use Rattle.reasons.specs.Notes.{note_pair, note_strict, note_line};
 ghost use Rattle.reasons.specs.Lent.{SameWork};
 
 use crate::work::Work;
-use cell::wide::Cell64;
+use cell::{Word, of_line};
 use offers::{Draft, spot, weights_of};
 use rules::Side;
 
@@ -25,8 +25,8 @@ impl Work<'_> {
         }
         let at = spot(self.plan.n, weights_of(side), d.from, d.to);
         let after = spot(self.plan.n, weights_of(side) + 1, d.from, d.to);
-        self.cells[at] = weight.v;
-        self.cells[after] = Cell64::of_number(line).v;
+        self.cells[at] = weight;
+        self.cells[after] = of_line(line);
     }
 
     // In the strict table, unless the line is a lower-case edge or an open join.

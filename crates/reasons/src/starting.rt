@@ -1,14 +1,13 @@
 // The work room as the working-out begins, with no line: no weight but 0 for a point to itself; and cleared at its end.
 ghost use Rattle.std.specs.Prelude.{[], ◌+◌, ◌*◌, ◌<◌, pos};
 ghost use Rattle.rules.specs.Calls.{Kept, Filled};
-ghost use Rattle.offers.specs.Work.{part_of, Holds};
+ghost use Rattle.offers.specs.Work.{Holds};
 ghost use Rattle.reasons.specs.Starting.{Between, Diagonal};
 ghost use Rattle.reasons.specs.Lent.{SameWork};
 
 use crate::work::Work;
-use cell::wide::Cell64;
-use offers::{spot, weights_of};
-use rules::Side;
+use cell::Word;
+use offers::spot;
 
 impl Work<'_> {
     // The four tables all 0.
@@ -21,13 +20,13 @@ impl Work<'_> {
     }
 
     // One of them all one number.
-    fn fill(&mut self, table: usize, c: Cell64)
+    fn fill(&mut self, table: usize, c: i64)
         requires { table < 4 }
         ensures same { SameWork self.old self.new }
-        ensures cells { Between (table * (self.old.plan.n * self.old.plan.n)) ((table + 1) * (self.old.plan.n * self.old.plan.n)) c.v self.old.cells.now self.new.cells.now }
+        ensures cells { Between (table * (self.old.plan.n * self.old.plan.n)) ((table + 1) * (self.old.plan.n * self.old.plan.n)) c self.old.cells.now self.new.cells.now }
     {
         let n = self.plan.n;
-        self.cells[table * (n * n)..(table + 1) * (n * n)].fill(c.v);
+        self.cells[table * (n * n)..(table + 1) * (n * n)].fill(c);
     }
 
     // Each point to itself 0, in one of them.
@@ -49,7 +48,7 @@ impl Work<'_> {
         ensures kept { Kept (4 * (self.old.plan.n * self.old.plan.n)) self.old.cells.now self.new.cells.now }
     {
         self.clear();
-        let none = Cell64::mark();
+        let none = i64::MARK;
         self.fill(0, none);
         self.fill(2, none);
         self.diagonal(0);

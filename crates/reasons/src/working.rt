@@ -17,12 +17,12 @@ use crate::lists::Lists;
 use crate::stepping::step_at;
 use crate::work::Work;
 use crate::{Place, Run};
-use cell::wide::Cell64;
+use cell::Word;
 use offers::Draft;
 
 // Whether a draft is a line that closes below zero.
 fn closes(d: Draft) -> bool
-    requires { cell64 d.weight.v ≡ num d.weight.v }
+    requires { cell64 d.weight ≡ num d.weight }
     ensures { result ≡ closes_of d }
 {
     if d.kind == 0 {
@@ -32,7 +32,7 @@ fn closes(d: Draft) -> bool
         return false;
     }
     let weight = d.weight;
-    weight.below(Cell64::of(0))
+    weight.below(0)
 }
 
 // A draft taken: noted as the next line, if it is one. How many lines there are then.

@@ -1,5 +1,7 @@
 -- No line, another point, or the weight's test. Assumes nothing.
-use mathlib.Core.Path.{sym}
+use mathlib.Core.Path.{refl, sym}
+use Rattle.std.proofs.Common.{rules}
+use lib.IntN.{pos}
 use Rattle.reasons.proofs.WorkLaws.{closes_none, closes_other, closes_weight}
 use Rattle.reasons.proofs.working.closes.Goals as goal
 
@@ -10,4 +12,4 @@ pub returns-then-d : goal.returns-then-d
 returns-then-d c = sym (closes_other c.args.d c.if-d.true)
 
 pub returns : goal.returns
-returns c = closes_weight c.args.d c.of.result.v c.if-d-eq0.false c.if-d.false c.requires c.of.ensures c.below.ensures
+returns c = closes_weight c.args.d (pos 0) c.if-d-eq0.false c.if-d.false c.requires refl (search rules)
