@@ -1,15 +1,21 @@
 -- What the walks through the code import, from one place. Assumes nothing.
 pub use mathlib.Core.Path.{◌∙◌, ◌≡◌, ap, refl, sym}
+pub use Rattle.rules.specs.declared.Side.TheVariants.{Strict}
 pub use mathlib.Core.Logic.{inl}
-pub use Prim.Native.Nat.{◌*◌, ◌+◌, ◌-◌, ◌≤◌}
+pub use Prim.Native.Nat.{suc, ◌*◌, ◌+◌, ◌-◌, ◌≤◌}
+pub use native.Mathlib.Numerals.{add-one}
+pub use lib.ListN.{get_or}
+pub use lib.IntN.{pos}
+pub use Rattle.offers.specs.Work.{part_of, spot_of}
 pub use native.Mathlib.Omega.{arith}
+pub use mir.Syntax.{w64}
+pub use mir.Val.{to_z, of_z}
 pub use borrow.Author.Rules.{rules}
 pub use borrow.Author.Tests.{not-false, not-true}
 pub use Rattle.whole.proofs.Place.{inside, square_le}
 pub use Rattle.cell.proofs.CellMethods.{is_mark_lem as mark-read}
-pub use Rattle.offers.proofs.OfferLaws.{spot_below, four_tables, part_small, part_next, known_room, kept_yes, kept_no, nothing_plain, near_read, LineIn, line_read, lowers_read}
-pub use Rattle.offers.proofs.OfferLaws.{Seen, seen_none, seen_more, seen_found, seen_all, seen_mark}
-pub use Rattle.offers.proofs.OfferLaws.{weight_read, join_made, sum_number}
+pub use Rattle.offers.proofs.OfferLaws.{spot_below, four_tables, part_small, part_next, known_room, kept_yes, kept_no, nothing_plain, near_read, line_read, same_line}
+pub use Rattle.offers.proofs.OfferLaws.{lowers_read, none_more, none_all, none_by_mark, join_made, sum_number}
 pub use Rattle.cell.proofs.CellMethods.{no_mark}
 pub use Rattle.cell.specs.Steps.{cell64}
 unfoldable pub use Rattle.cell.specs.Steps.{adding}

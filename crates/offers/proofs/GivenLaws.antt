@@ -112,7 +112,7 @@ module _ (n : ℕ) (work : List ℤ) (c : ℕ) (a b : Link) where
             at true e = absurd (true≢false (ap is_mark e))
             at false e = refl
 
-    pub lower_some : (d : Draft) → cell64 w ≡ num w → d.weight.v ≡ w → d.kind ≡ 7 → d.from ≡ a.act → d.to ≡ b.con → d.first ≡ c
+    pub lower_some : (d : Draft) → cell64 w ≡ num w → d.weight ≡ w → d.kind ≡ 7 → d.from ≡ a.act → d.to ≡ b.con → d.first ≡ c
         → ((u : ℕ) → get_or work (spot_of n 1 a.con b.con) (pos 0) ≡ pos u → d.second ≡ u) → Offers n work (lower_offer c a b) d
     unfolding lower_offer
     lower_some d m dw k f o g l ls t =
@@ -150,7 +150,7 @@ module _ (n : ℕ) (work : List ℤ) (c x : ℕ) (a : Link) where
         by still e = refl
         by (made i u) e = absurd (true≢false (ap is_mark e))
 
-    pub upper_some : (d : Draft) → cell64 w ≡ num w → d.weight.v ≡ w → d.kind ≡ 8 → d.from ≡ x → d.to ≡ a.act → d.second ≡ c
+    pub upper_some : (d : Draft) → cell64 w ≡ num w → d.weight ≡ w → d.kind ≡ 8 → d.from ≡ x → d.to ≡ a.act → d.second ≡ c
         → ((u : ℕ) → get_or work (spot_of n 1 x a.con) (pos 0) ≡ pos u → d.first ≡ u) → Offers n work (upper_offer c x a) d
     unfolding upper_offer
     upper_some d m dw k f o g l ls t =

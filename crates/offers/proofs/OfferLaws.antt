@@ -2,7 +2,7 @@
 -- to from such cells. Assumes nothing.
 use mathlib.Core.Path.{◌≡◌, refl, sym, ap, ◌∙◌, subst}
 use mathlib.Core.Bool.{Bool, true, false, cond, ◌||◌, true≢false}
-use mathlib.Core.Logic.{◌⊎◌, inl, inr, ⊎_elim}
+use mathlib.Core.Logic.{⊎_elim}
 use mathlib.Core.List.{List, ◌∷◌}
 use Prim.Native.Nat.{ℕ, suc, ◌+◌, ◌*◌, ◌≤◌, ◌<◌}
 use native.Mathlib.Nat.{mul-le-mul, eq-or-lt_of_le}
@@ -11,7 +11,7 @@ use native.Mathlib.Omega.{arith}
 use lib.Dec.{eqb}
 use lib.ListN.{length, get_or}
 use lib.IntN.{ℤ, pos, ◌+ℤ◌, +ℤ_idl, +ℤ_idr}
-use lib.Signed.{≤ℤ_refl}
+use lib.Signed.{◌≤ℤ◌, ≤ℤ_refl}
 use borrow.Author.Tests.{ne_eqb}
 use Rattle.whole.proofs.Order.{ints}
 use Rattle.whole.proofs.Bits.{le_lt_z}
@@ -22,13 +22,12 @@ use Rattle.cell.specs.Steps.{adding, roomy, cell64, belowᶜ, Stored, number_of}
 use Rattle.cell.proofs.CellMethods.{number_is, mark_is}
 use Rattle.rules.proofs.Cells.{same_number}
 use Rattle.cell.proofs.StoredCells.{within_stored, number_of_lem}
-use Rattle.cell.specs.declared.wide.Cell64.{Cell64}
 use Rattle.chain.specs.Lines.{Line, Best, none, still, made, beats, best, weight_of, line_of, cells}
 use Rattle.chain.specs.Reasons.{Offer, nothing, line, always, side_of, write, try, joined}
 use Rattle.chain.proofs.BestLines.{still_same}
 use Rattle.offers.specs.declared.Draft.{Draft}
 use Rattle.offers.specs.Work.{spot_of, part_of, weight_in, Standing, Known}
-use Rattle.offers.specs.Drafts.{made_of, offer_of, Offers, Adds, Plain, Nothing, lowers_by, NextJoin}
+use Rattle.offers.specs.Drafts.{made_of, offer_of, Offers, Adds, Plain, Nothing, lowers_by, NoneBefore}
 
 -- ---- where cells stand
 
@@ -40,14 +39,13 @@ spot_below hx hy hp = digits_lt hp (digits_lt hx hy)
 pub four_tables : {n : ℕ} → n ≤ 64 → 4 * (n * n) ≤ 16384
 four_tables h = let s = mul-le-mul h h in omega (arith, s)
 
--- the side of a table of weights
-pub record SideOfPart (part : ℕ) : Type 0 where
-  pub side : Side
-  pub is : part ≡ part_of side
+-- the two tables of a side are among them
+pub part_next : (s : Side) → suc (part_of s) < 4
+part_next Strict = omega arith
+part_next Open = omega arith
 
-pub side_of_lem : {part : ℕ} → (part ≡ 0) ⊎ (part ≡ 2) → SideOfPart part
-side_of_lem (inl e) = record { side = Strict; is = e }
-side_of_lem (inr e) = record { side = Open; is = e }
+pub part_small : (s : Side) → part_of s < 4
+part_small s = omega (arith, part_next s)
 
 -- ---- what is read
 
@@ -63,34 +61,15 @@ module _ {n : ℕ} {ls : List Line} {work : List ℤ} (t : Standing n ls work) w
   weight_read s x y hx hy = rw (t.holds.weight s x y hx hy) (number_cell (cells s ls x y) (t.near s x y hx hy))
 
 -- it may be added to
-pub near_read : {n : ℕ} {work : List ℤ} {part x y : ℕ} {v : ℤ} → Known n work → (part ≡ 0) ⊎ (part ≡ 2) → x < n → y < n
-    → v ≡ get_or work (spot_of n part x y) (pos 0) → Stored roomy.reach (cell64 v)
-near_read {n} {work} {part} {x} {y} {v} k p hx hy e =
-    let s = side_of_lem p in
-    let at = k.standing.near s.side x y hx hy in
-    rw (e, s.is, weight_read k.standing s.side x y hx hy) (within_stored roomy.reach (cells s.side k.lines x y) at)
+pub near_read : {n : ℕ} {work : List ℤ} (s : Side) {x y : ℕ} {v : ℤ} → Known n work → x < n → y < n → v ≡ get_or work (spot_of n (part_of s) x y) (pos 0)
+    → Stored roomy.reach (cell64 v)
+near_read {n} {work} s {x} {y} {v} k hx hy e =
+    rw (e, weight_read k.standing s x y hx hy) (within_stored roomy.reach (cells s k.lines x y) (k.standing.near s x y hx hy))
 
--- a cell that holds the number of a line
-pub record LineIn (work : List ℤ) (at : ℕ) : Type 0 where
-  pub number : ℕ
-  pub is : get_or work at (pos 0) ≡ pos number
-
-pub line_read : {n : ℕ} {work : List ℤ} {part x y : ℕ} → Known n work → (part ≡ 0) ⊎ (part ≡ 2) → x < n → y < n → LineIn work (spot_of n (part + 1) x y)
-line_read {n} {work} {part} {x} {y} k p hx hy = by (side_of_lem p)
-  where
-    at : (s : Side) → spot_of n (suc (part_of s)) x y ≡ spot_of n (part_of s + 1) x y
-    at Strict = refl
-    at Open = refl
-
-    by : SideOfPart part → LineIn work (spot_of n (part + 1) x y)
-    by q =
-        record {
-          number = line_of (best q.side x y k.lines);
-          is =
-              ap (λ (c : ℕ). get_or work (spot_of n (c + 1) x y) (pos 0)) q.is
-              ∙ ap (λ (c : ℕ). get_or work c (pos 0)) (sym (at q.side))
-              ∙ k.standing.holds.line q.side x y hx hy;
-        }
+-- a cell that holds the number of a line holds no negative number
+pub line_read : {n : ℕ} {work : List ℤ} (s : Side) {x y : ℕ} {v : ℤ} → Known n work → x < n → y < n → v ≡ get_or work (spot_of n (suc (part_of s)) x y) (pos 0)
+    → pos 0 ≤ℤ v
+line_read {n} {work} s {x} {y} {v} k hx hy e = rw (e, k.standing.holds.line s x y hx hy) (omega ints)
 
 -- ---- the bests
 
@@ -167,48 +146,23 @@ module _ (s : Side) (kind x y z : ℕ) (ls : List Line) where
 
 -- ---- the search for the next join
 
--- no join of the columns from z on and before one lowers its cell
-pub record Seen (n : ℕ) (work : List ℤ) (part y x z at : ℕ) : Type 0 where
-  pub from : z ≤ at
-  pub to : at ≤ n
-  pub none_before : (j : ℕ) → z ≤ j → j < at → lowers_by n work part y x j ≡ false
-
 module _ {n : ℕ} {work : List ℤ} {part y x z : ℕ} where
-  pub seen_none : z ≤ n → Seen n work part y x z z
-  seen_none h = record { from = omega arith; to = h; none_before = λ j a b. absurd (omega arith) }
-
-  pub seen_more : {at : ℕ} → Seen n work part y x z at → at < n → lowers_by n work part y x at ≡ false → Seen n work part y x z (at + 1)
-  seen_more {at} s h f =
+  pub none_more : {at : ℕ} → NoneBefore n work part y x z at → lowers_by n work part y x at ≡ false → NoneBefore n work part y x z (at + 1)
+  none_more {at} before f =
       record {
-        from = omega (arith, s.from);
-        to = omega arith;
-        none_before = λ j a b. ⊎_elim
+        stays = λ j a b. ⊎_elim
             (λ (e : j ≡ at). rw e f)
-            (λ (l : j < at). s.none_before j a l)
+            (λ (l : j < at). before.stays j a l)
             (eq-or-lt_of_le (omega arith));
       }
 
-  pub seen_found : {at : ℕ} → Seen n work part y x z at → at < n → lowers_by n work part y x at ≡ true → NextJoin n work part y x z at
-  seen_found s h f = record { from = s.from; to = s.to; none_before = s.none_before; lowers = λ l. f }
+  -- at the last column
+  pub none_all : {at : ℕ} → NoneBefore n work part y x z at → n ≤ at → NoneBefore n work part y x z n
+  none_all before h = record { stays = λ j a b. before.stays j a (omega arith) }
 
-  pub seen_all : {at : ℕ} → Seen n work part y x z at → n ≤ at → NextJoin n work part y x z n
-  seen_all {at} s h =
-      record {
-        from = omega (arith, s.from, s.to);
-        to = omega arith;
-        none_before = λ j a b. s.none_before j a (omega arith);
-        lowers = λ l. absurd (omega arith);
-      }
-
-  -- a row whose cell to the middle is the mark
-  pub seen_mark : z ≤ n → (v : ℤ) → v ≡ get_or work (spot_of n part x y) (pos 0) → cell64 v ≡ mark → NextJoin n work part y x z n
-  seen_mark h v e m =
-      record {
-        from = h;
-        to = omega arith;
-        none_before = λ j a b. let g : weight_in n work part x y ≡ mark = ap cell64 (sym e) ∙ m in rw g;
-        lowers = λ l. absurd (omega arith);
-      }
+-- a row whose cell to the middle is the mark
+pub none_by_mark : {n : ℕ} {work : List ℤ} {part y x z r : ℕ} (v : ℤ) → v ≡ get_or work (spot_of n part x y) (pos 0) → cell64 v ≡ mark → NoneBefore n work part y x z r
+none_by_mark {n} {work} {part} {y} {x} v e m = record { stays = λ j a b. let g : weight_in n work part x y ≡ mark = ap cell64 (sym e) ∙ m in rw g }
 
 -- the test that the code makes, of the cells as they were read
 pub lowers_read : (n : ℕ) (work : List ℤ) (part y x j : ℕ) {t : Bool} (a b c s : ℤ) → a ≡ get_or work (spot_of n part x y) (pos 0)
@@ -219,11 +173,11 @@ lowers_read n work part y x j a b c s ea eb ec es et = rw (← ea, ← eb, ← e
 -- ---- what a try adds
 
 -- an ordinary line, kept or not by the test of its weight against the strict cell
-module _ (n : ℕ) (work : List ℤ) (d : Draft) (w c : ℤ) (p : Plain n d) (ew : w ≡ d.weight.v) (ec : c ≡ get_or work (spot_of n 0 d.from d.to) (pos 0)) where
+module _ (n : ℕ) (work : List ℤ) (d : Draft) (w c : ℤ) (p : Plain n d) (ew : w ≡ d.weight) (ec : c ≡ get_or work (spot_of n 0 d.from d.to) (pos 0)) where
   side_cell : (ls : List Line) → Standing n ls work → cells (side_of d.kind) ls d.from d.to ≡ cell64 c
   side_cell ls t = rw p.strict (sym (weight_read t Strict d.from d.to p.notable.from p.notable.to) ∙ ap cell64 (sym ec))
 
-  weight_cell : cell64 w ≡ num d.weight.v
+  weight_cell : cell64 w ≡ num d.weight
   weight_cell = rw ew p.notable.number
 
   pub kept_yes : {t : Bool} → t ≡ belowᶜ (cell64 w) (cell64 c) → t ≡ true → (offer : List Line → Offer) → Offers n work offer d → Adds n work offer d
@@ -245,15 +199,6 @@ module _ (n : ℕ) (work : List ℤ) (d : Draft) (w c : ℤ) (p : Plain n d) (ew
       by : (b : Bool) → write (line (made_of d)) ls ≡ ls → write (cond b nothing (line (made_of d))) ls ≡ ls
       by true h = refl
       by false h = h
-
--- what is known of a table of weights and of the work room
-pub part_small : {part : ℕ} → (part ≡ 0) ⊎ (part ≡ 2) → part < 4
-part_small (inl e) = omega arith
-part_small (inr e) = omega arith
-
-pub part_next : {part : ℕ} → (part ≡ 0) ⊎ (part ≡ 2) → part + 1 < 4
-part_next (inl e) = omega arith
-part_next (inr e) = omega arith
 
 pub known_room : {n : ℕ} {work : List ℤ} → Known n work → 4 * (n * n) ≤ length work
 known_room k = k.standing.holds.room
@@ -277,27 +222,22 @@ sum_number n work part x y z low a b w ea eb ew =
     sum ∙ sym (below_number (weight_in n work part x y +ᶜ weight_in n work part y z) (weight_in n work part x z) sum low)
 
 -- the join that was made of two bests as they were read
-module _ (n : ℕ) (work : List ℤ) (part kind x y z : ℕ) (hx : x < n) (hy : y < n) (hz : z < n) (hk : 1 ≤ kind) (lower : lowers_by n work part y x z ≡ true)
-    (a b : ℤ) (w : Cell64) (ea : a ≡ get_or work (spot_of n part x y) (pos 0)) (eb : b ≡ get_or work (spot_of n part y z) (pos 0))
-    (ew : cell64 w.v ≡ cell64 a +ᶜ cell64 b) (f g : ℕ) where
-  pub join_made : ((v : ℕ) → get_or work (spot_of n (part + 1) x y) (pos 0) ≡ pos v → f ≡ v)
-      → ((v : ℕ) → get_or work (spot_of n (part + 1) y z) (pos 0) ≡ pos v → g ≡ v) → (s : Side) (ls : List Line) → part ≡ part_of s → Standing n ls work
+module _ (n : ℕ) (work : List ℤ) (s : Side) (kind x y z : ℕ) (hx : x < n) (hy : y < n) (hz : z < n) (hk : 1 ≤ kind) (lower : lowers_by n work (part_of s) y x z ≡ true)
+    (a b : ℤ) (w : ℤ) (ea : a ≡ get_or work (spot_of n (part_of s) x y) (pos 0)) (eb : b ≡ get_or work (spot_of n (part_of s) y z) (pos 0))
+    (ew : cell64 w ≡ cell64 a +ᶜ cell64 b) (f g : ℕ) where
+  pub join_made : ((v : ℕ) → get_or work (spot_of n (suc (part_of s)) x y) (pos 0) ≡ pos v → f ≡ v)
+      → ((v : ℕ) → get_or work (spot_of n (suc (part_of s)) y z) (pos 0) ≡ pos v → g ≡ v) → (ls : List Line) → Standing n ls work
       → joined kind x z (best s x y ls) (best s y z ls) ≡ offer_of (record { kind = kind; from = x; to = z; weight = w; first = f; second = g })
-  join_made lf lg s ls ep t =
-      let xy : weight_in n work part x y ≡ cells s ls x y = ap (λ (q : ℕ). weight_in n work q x y) ep ∙ weight_read t s x y hx hy in
-      let yz : weight_in n work part y z ≡ cells s ls y z = ap (λ (q : ℕ). weight_in n work q y z) ep ∙ weight_read t s y z hy hz in
-      let xz : weight_in n work part x z ≡ cells s ls x z = ap (λ (q : ℕ). weight_in n work q x z) ep ∙ weight_read t s x z hx hz in
+  join_made lf lg ls t =
+      let xy = weight_read t s x y hx hy in
+      let yz = weight_read t s y z hy hz in
+      let xz = weight_read t s x z hx hz in
       let low : belowᶜ (cells s ls x y +ᶜ cells s ls y z) (cells s ls x z) ≡ true = rw (← xy, ← yz, ← xz) lower in
-      let sum : cell64 w.v ≡ cells s ls x y +ᶜ cells s ls y z = rw (← xy, ← yz, ← ea, ← eb) ew in
-      let first : f ≡ line_of (best s x y ls) = lf (line_of (best s x y ls)) (line_is s x y ep hx hy t) in
-      let second : g ≡ line_of (best s y z ls) = lg (line_of (best s y z ls)) (line_is s y z ep hy hz t) in
+      let sum : cell64 w ≡ cells s ls x y +ᶜ cells s ls y z = rw (← xy, ← yz, ← ea, ← eb) ew in
+      let first : f ≡ line_of (best s x y ls) = lf (line_of (best s x y ls)) (t.holds.line s x y hx hy) in
+      let second : g ≡ line_of (best s y z ls) = lg (line_of (best s y z ls)) (t.holds.line s y z hy hz) in
       let some : eqb kind 0 ≡ false = ne_eqb kind 0 (λ e. omega arith) in
-      join_some s kind x y z ls low w.v (below_number (cells s ls x y +ᶜ cells s ls y z) (cells s ls x z) sum low) ∙ rw (some, first, second)
-    where
-      line_is : (s : Side) (i j : ℕ) {ls : List Line} → part ≡ part_of s → i < n → j < n → Standing n ls work
-          → get_or work (spot_of n (part + 1) i j) (pos 0) ≡ pos (line_of (best s i j ls))
-      line_is Strict i j e hi hj t = rw e (t.holds.line Strict i j hi hj)
-      line_is Open i j e hi hj t = rw e (t.holds.line Open i j hi hj)
+      join_some s kind x y z ls low w (below_number (cells s ls x y +ᶜ cells s ls y z) (cells s ls x z) sum low) ∙ rw (some, first, second)
 
 -- no line can be noted, and is an ordinary one
 pub nothing_plain : {n x : ℕ} {d : Draft} → x < n → Nothing d → Plain n d

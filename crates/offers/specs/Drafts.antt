@@ -1,5 +1,5 @@
 -- A line that may be written, as the code holds it: of kind 0 where there is none. Assumes nothing.
-use Rattle.std.specs.Prelude.{◌≡◌, Bool, true, false, cond, List, ◌∷◌, ℕ, ◌≤◌, ◌<◌, eqb, ℤ, pos}
+use Rattle.std.specs.Prelude.{◌≡◌, Bool, true, false, cond, List, ◌∷◌, Option, Some, None, ℕ, ◌≤◌, ◌<◌, eqb, ℤ, pos}
 use Rattle.rules.specs.declared.Side.TheVariants.{Strict}
 use Rattle.rules.specs.Cells.{num, ◌+ᶜ◌}
 use Rattle.cell.specs.Steps.{cell64, belowᶜ}
@@ -9,7 +9,7 @@ use Rattle.offers.specs.declared.Draft.{Draft}
 use Rattle.offers.specs.Work.{weight_in, Standing}
 
 abbrev pub made_of : Draft → Line
-made_of d = record { kind = d.kind; from = d.from; to = d.to; weight = d.weight.v; first = d.first; second = d.second }
+made_of d = record { kind = d.kind; from = d.from; to = d.to; weight = d.weight; first = d.first; second = d.second }
 
 -- what it offers
 abbrev pub offer_of : Draft → Offer
@@ -31,7 +31,7 @@ Adds n work offer d = (ls : List Line) → Standing n ls work → try offer ls �
 pub record Notable (n : ℕ) (d : Draft) : Type 0 where
   pub from : d.from < n
   pub to : d.to < n
-  pub number : cell64 d.weight.v ≡ num d.weight.v
+  pub number : cell64 d.weight ≡ num d.weight
 
 -- and that is written only if it beats the strict pair's best
 pub record Plain (n : ℕ) (d : Draft) : Type 0 where
@@ -44,15 +44,24 @@ pub record Nothing (d : Draft) : Type 0 where
   pub kind : d.kind ≡ 0
   pub from : d.from ≡ 0
   pub to : d.to ≡ 0
-  pub weight : d.weight.v ≡ pos 0
+  pub weight : d.weight ≡ pos 0
 
 -- whether a join by the middle y lowers the cell from x to z
 abbrev pub lowers_by : ℕ → List ℤ → ℕ → ℕ → ℕ → ℕ → Bool
 lowers_by n work part y x z = belowᶜ (weight_in n work part x y +ᶜ weight_in n work part y z) (weight_in n work part x z)
 
--- the first column from z on whose cell such a join lowers, or n
-pub record NextJoin (n : ℕ) (work : List ℤ) (part y x z r : ℕ) : Type 0 where
+-- no such join of the columns from z on and before r does
+pub record NoneBefore (n : ℕ) (work : List ℤ) (part y x z r : ℕ) : Type 0 where
+  pub stays : (j : ℕ) → z ≤ j → j < r → lowers_by n work part y x j ≡ false
+
+-- a column from z on whose cell such a join lowers, and no earlier one is
+pub record Lowering (n : ℕ) (work : List ℤ) (part y x z r : ℕ) : Type 0 where
   pub from : z ≤ r
-  pub to : r ≤ n
-  pub none_before : (j : ℕ) → z ≤ j → j < r → lowers_by n work part y x j ≡ false
-  pub lowers : r < n → lowers_by n work part y x r ≡ true
+  pub to : r < n
+  pub none_before : NoneBefore n work part y x z r
+  pub lowers : lowers_by n work part y x r ≡ true
+
+-- the first such column, or none
+abbrev pub NextJoin : ℕ → List ℤ → ℕ → ℕ → ℕ → ℕ → Option ℕ → Type 0
+NextJoin n work part y x z None = NoneBefore n work part y x z n
+NextJoin n work part y x z (Some r) = Lowering n work part y x z r

@@ -1,15 +1,13 @@
 // What is given: start edges, limits, and the three lines of a link.
-ghost use Rattle.std.specs.Prelude.{◌≡◌, true, List, ◌≤◌, ◌<◌};
+ghost use Rattle.std.specs.Prelude.{◌≡◌, true, List, ◌<◌};
 ghost use Rattle.plan.specs.Layout.{limit_at, link_at};
-ghost use Rattle.lowering.specs.Table.{Ready};
 ghost use Rattle.chain.specs.Lines.{Line, start_line, limit_line};
 ghost use Rattle.chain.specs.Reasons.{link_offer, always};
 ghost use Rattle.offers.specs.Drafts.{made_of, offer_of, Notable};
 
 use crate::Draft;
-use cell::Cell32;
-use cell::wide::Cell64;
-use reader::{limit_of, link_of};
+use cell::{Word, widened};
+use reader::SoundPlan;
 
 // The start edge of a point.
 pub fn start_draft(x: u32) -> Draft
@@ -19,40 +17,40 @@ pub fn start_draft(x: u32) -> Draft
         kind: 1,
         from: x,
         to: 0,
-        weight: Cell64::of(0),
+        weight: i64::of(0),
         first: 0,
         second: 0,
     }
 }
 
 // Limit i.
-pub fn limit_draft(file: &[u8], n: u32, m: u32, k: u32, i: u32) -> Draft
-    requires { (i < m) × Ready file.now n m k }
-    ensures { made_of result ≡ limit_line i (limit_at file.now i) }
+pub fn limit_draft(plan: SoundPlan, i: u32) -> Draft
+    requires { i < plan.m }
+    ensures { made_of result ≡ limit_line i (limit_at plan.entry.file.now i) }
 {
-    let l = limit_of(file, n as usize, m, k, i);
+    let l = plan.limit(i);
     Draft {
         kind: 2,
         from: l.from,
         to: l.to,
-        weight: Cell64::widened(Cell32 { v: l.weight }),
+        weight: widened(l.weight),
         first: i as u64,
         second: 0,
     }
 }
 
 // The longest (0), the shortest (1) and the lower-case line (2) of link i.
-pub fn link_draft(file: &[u8], n: u32, m: u32, k: u32, i: u32, c: u32) -> Draft
-    requires { (i < k) × (c < 3) × Ready file.now n m k }
-    ensures { ((ls : List Line) → link_offer i (link_at file.now m i) c ls ≡ offer_of result) × Notable n result × (always result.kind ≡ true) }
+pub fn link_draft(plan: SoundPlan, i: u32, c: u32) -> Draft
+    requires { (i < plan.k) × (c < 3) }
+    ensures { ((ls : List Line) → link_offer i (link_at plan.entry.file.now plan.entry.m i) c ls ≡ offer_of result) × Notable plan.entry.n result × (always result.kind ≡ true) }
 {
-    let a = link_of(file, n as usize, m, k, i);
+    let a = plan.link(i);
     if c == 0 {
         return Draft {
             kind: 3,
             from: a.act,
             to: a.con,
-            weight: Cell64::of(a.long),
+            weight: i64::of(a.long),
             first: i as u64,
             second: 0,
         };
@@ -62,7 +60,7 @@ pub fn link_draft(file: &[u8], n: u32, m: u32, k: u32, i: u32, c: u32) -> Draft
             kind: 4,
             from: a.con,
             to: a.act,
-            weight: Cell64::of(a.short).negated(),
+            weight: i64::of(a.short).negated(),
             first: i as u64,
             second: 0,
         };
@@ -71,7 +69,7 @@ pub fn link_draft(file: &[u8], n: u32, m: u32, k: u32, i: u32, c: u32) -> Draft
         kind: 5,
         from: a.act,
         to: a.con,
-        weight: Cell64::of(a.short),
+        weight: i64::of(a.short),
         first: i as u64,
         second: 0,
     }

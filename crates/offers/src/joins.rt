@@ -1,46 +1,45 @@
-// Joins of two best lines of one side: those of strict pairs stand in table 0, those of open pairs in table 2.
-ghost use Rattle.std.specs.Prelude.{◌≡◌, true, List, ◌⊎◌, ℕ, ◌*◌, ◌≤◌, ◌<◌, length, get_or};
-ghost use Rattle.rules.specs.declared.Side.{Side};
+// Joins of two best lines of one side.
+ghost use Rattle.std.specs.Prelude.{◌≡◌, true, List, ◌≤◌, ◌<◌};
 ghost use Rattle.chain.specs.Lines.{Line, best};
 ghost use Rattle.chain.specs.Reasons.{joined};
 ghost use Rattle.offers.specs.Work.{part_of, Known, Standing};
 ghost use Rattle.offers.specs.Drafts.{offer_of, Notable, lowers_by, NextJoin};
 
 use crate::Draft;
-use crate::pairs::{line_at, weight_at};
+use crate::bests::Bests;
+use cell::Word;
+use rules::Side;
 
-// The first column from z on at which a join by the middle y lowers row x, or n; with the cell x to y taken out of the loop.
-pub fn next_join(work: &[i64], n: u32, part: u32, y: u32, x: u32, z: u32) -> u32
-    requires { (x < n) × (y < n) × (z ≤ n) × (n ≤ 64) × ((part ≡ 0) ⊎ (part ≡ 2)) × Known n work.now }
-    ensures { NextJoin n work.now part y x z result }
+// The first column from z on at which a join by the middle y lowers row x, or none; with the cell x to y taken out of the loop.
+pub fn next_join(work: Bests, side: Side, y: u32, x: u32, z: u32) -> Option<u32>
+    requires { (x < work.plan.n) × (y < work.plan.n) × (z ≤ work.plan.n) × Known work.plan.n work.cells.now }
+    ensures { NextJoin work.entry.plan.n work.entry.cells.now (part_of side) y x z result }
 {
-    let a = weight_at(work, n, part, x, y);
+    let a = work.weight(side, x, y);
     if a.is_mark() {
-        return n;
+        return None;
     }
-    let mut at = z;
-    while at < n {
-        let b = weight_at(work, n, part, y, at);
-        if a.add(b).below(weight_at(work, n, part, x, at)) {
-            return at;
+    for at in z..work.plan.n as u32 {
+        let b = work.weight(side, y, at);
+        if a.add(b).below(work.weight(side, x, at)) {
+            return Some(at);
         }
-        at += 1;
     }
-    n
+    None
 }
 
 // The join of the best lines from x to y and from y to z.
-pub fn join_draft(work: &[i64], n: u32, part: u32, kind: u32, y: u32, x: u32, z: u32) -> Draft
-    requires { (x < n) × (y < n) × (z < n) × (n ≤ 64) × ((part ≡ 0) ⊎ (part ≡ 2)) × (1 ≤ kind) × Known n work.now × (lowers_by n work.now part y x z ≡ true) }
-    ensures { ((s : Side) (ls : List Line) → part ≡ part_of s → Standing n ls work.now → joined kind x z (best s x y ls) (best s y z ls) ≡ offer_of result) × Notable n result }
+pub fn join_draft(work: Bests, side: Side, kind: u32, y: u32, x: u32, z: u32) -> Draft
+    requires { (x < work.plan.n) × (y < work.plan.n) × (z < work.plan.n) × (1 ≤ kind) × Known work.plan.n work.cells.now × (lowers_by work.plan.n work.cells.now (part_of side) y x z ≡ true) }
+    ensures { ((ls : List Line) → Standing work.entry.plan.n ls work.entry.cells.now → joined kind x z (best side x y ls) (best side y z ls) ≡ offer_of result) × Notable work.entry.plan.n result }
 {
-    let w = weight_at(work, n, part, x, y).add(weight_at(work, n, part, y, z));
+    let w = work.weight(side, x, y).add(work.weight(side, y, z));
     Draft {
         kind,
         from: x,
         to: z,
         weight: w,
-        first: line_at(work, n, part, x, y),
-        second: line_at(work, n, part, y, z),
+        first: work.line(side, x, y),
+        second: work.line(side, y, z),
     }
 }

@@ -2,16 +2,14 @@
 // far (specs/Work.antt), a draft is a line that may be written (specs/Drafts.antt).
 #![tactic(auto)]
 
-use cell::wide::Cell64;
-
+mod bests;
 mod given;
 mod joins;
-mod pairs;
 mod rules_of;
 
+pub use bests::{Bests, kept, no_draft, spot, weights_of};
 pub use given::{limit_draft, link_draft, start_draft};
 pub use joins::{join_draft, next_join};
-pub use pairs::{kept, no_draft, spot, weight_at};
 pub use rules_of::{lower_draft, upper_draft};
 
 // A line that may be written; of kind 0 where there is none.
@@ -20,7 +18,7 @@ pub struct Draft {
     pub kind: u32,
     pub from: u32,
     pub to: u32,
-    pub weight: Cell64,
+    pub weight: i64,
     pub first: u64,
     pub second: u64,
 }

@@ -3,7 +3,7 @@ use mathlib.Core.Path.{◌≡◌, refl, sym, ap, subst, ◌∙◌}
 use mathlib.Core.Logic.{◌≢◌}
 use mathlib.Core.Bool.{Bool, true, false, cond}
 use mathlib.Core.List.{List, [], ◌∷◌}
-use Prim.Native.Nat.{ℕ, zero, ◌*◌, ◌≤◌, ◌<◌, min}
+use Prim.Native.Nat.{ℕ, zero, ◌*◌, ◌≤◌, ◌<◌}
 use native.Mathlib.Omega.{arith}
 use lib.Dec.{eqb}
 use lib.ListN.{length}
@@ -12,9 +12,8 @@ use borrow.Author.Tests.{eqb-false}
 use Rattle.rules.specs.Answers.{Answer, Done, ShortRoom, ReasonsListed}
 use Rattle.rules.specs.Plan.{Plan, version1, InRange}
 use Rattle.rules.specs.Calls.{Kept, Filled}
-use Rattle.plan.specs.Layout.{plan_of, head_of}
+use Rattle.plan.specs.Layout.{plan_of}
 use Rattle.plan.specs.File.{file_answer}
-use Rattle.plan.specs.declared.Header.{Header}
 use Rattle.lowering.specs.Table.{Ready}
 use Rattle.lowering.proofs.Laws.ReadyFile.{ready_points, ready_in_range}
 use Rattle.chain.specs.Lines.{Line, line_at}
@@ -100,23 +99,13 @@ module _ {s : List ℕ} {n m k : ℕ} (r : Ready s n m k) where
         (laid_listed (room_of first) w.lines first few (room_roomy first) fit)
         (subst (λ (c : ℕ). Filled c (pos zero) work work₃) work_is (cleared (kept_trans kept kept') f)))
 
--- the room as the code works it out
-pub room_read : (t : Lists) {room : ℕ}
-    → room ≡ min 4_294_967_295 (min (length t.kinds) (min (length t.froms) (min (length t.tos) (min (length t.weights) (min (length t.firsts) (length t.seconds))))))
-    → room ≡ room_of t
-unfolding room_of
-room_read t e = e
-
 -- ---- before the list is worked out
 
 -- a file that is refused, and a work room that is too short
-pub answer_file : (s : List ℕ) {lists : Lists} {work : List ℤ} {a : Answer} {r : Refusal} → a ≡ file_answer s → a ≡ Err r
+pub answer_file : (s : List ℕ) {lists : Lists} {work : List ℤ} {r : Refusal} → file_answer s ≡ Err r
     → Reasoned (file_answer s) (plan_of s) lists work (Err r) lists work
-answer_file s {lists} {work} e q =
-    subst (λ (x : Answer). Reasoned (file_answer s) (plan_of s) lists work x lists work) (sym e ∙ q) (Reasoned.bad_file (λ d. not_done (sym q ∙ e ∙ d)))
-
-pub ready_made : {s : List ℕ} {h : Header} → h ≡ head_of s → file_answer s ≡ Done → Ready s h.points h.limits h.links
-ready_made e d = record { sound = d; points = ap (λ (q : Header). q.points) e; limits = ap (λ (q : Header). q.limits) e; links = ap (λ (q : Header). q.links) e }
+answer_file s {lists} {work} e =
+    subst (λ (x : Answer). Reasoned (file_answer s) (plan_of s) lists work x lists work) e (Reasoned.bad_file (λ d. not_done (sym e ∙ d)))
 
 pub answer_short : {s : List ℕ} {n m k : ℕ} → Ready s n m k → {lists : Lists} {work : List ℤ} → length work < 4 * (n * n)
     → Reasoned (file_answer s) (plan_of s) lists work ShortRoom lists work

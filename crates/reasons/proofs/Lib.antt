@@ -8,3 +8,4 @@ pub mod WorkLaws
 pub mod FineLaws
 pub mod SweepLaws
 pub mod CallLaws
+pub mod LentLaws

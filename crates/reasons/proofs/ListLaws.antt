@@ -2,7 +2,7 @@
 use mathlib.Core.Path.{◌≡◌, refl, subst, ◌∙◌}
 use mathlib.Core.Bool.{Bool, true, false, cond}
 use mathlib.Core.List.{List, [], ◌∷◌}
-use Prim.Native.Nat.{ℕ, suc, ◌%◌, ◌≤◌, ◌<◌}
+use Prim.Native.Nat.{ℕ, suc, ◌%◌, ◌≤◌, ◌<◌, min}
 use native.Mathlib.Decide.{ℕ_discrete}
 use native.Mathlib.Omega.{arith}
 use lib.Dec.{eqb, ltb}
@@ -12,7 +12,7 @@ use borrow.Author.Tests.{lt-ltb, le-ltb, eq-eqb, ne_eqb}
 use Rattle.chain.specs.Lines.{Line, line_at}
 use Rattle.chain.specs.Call.{Lists, room_of, Column, Listed}
 use Rattle.reasons.specs.Notes.{set_at, word, set_line, laid}
-use Rattle.reasons.specs.Working.{Roomy}
+use Rattle.reasons.specs.Room.{Roomy}
 
 -- ---- one line
 
@@ -128,23 +128,13 @@ laid_listed room (l ∷ ls) t h r few =
 
 -- ---- room
 
+pub min_comm : (a b : ℕ) → min a b ≡ min b a
+min_comm a b = omega arith
+
 -- the room of six lists fits into each
 pub room_roomy : (t : Lists) → Roomy (room_of t) t
 unfolding room_of
 room_roomy t =
-    record {
-      place = omega arith;
-      kinds = omega arith;
-      froms = omega arith;
-      tos = omega arith;
-      weights = omega arith;
-      firsts = omega arith;
-      seconds = omega arith;
-    }
-
--- and so does none
-pub roomy_none : (t : Lists) → Roomy 0 t
-roomy_none t =
     record {
       place = omega arith;
       kinds = omega arith;

@@ -85,10 +85,10 @@ module _ (n part : ℕ) (l : Line) (i : ℕ) (work : List ℤ) {c : ℤ} {t : Bo
   pair_stays f = rw (below_is ∙ f)
 
   -- one that is stands there, with the number of its line
-  pub pair_written : {mid last : List ℤ} {a b : ℕ} {v : ℤ} → t ≡ true → a ≡ spot_of n part l.from l.to → b ≡ spot_of n (part + 1) l.from l.to → v ≡ pos i
-      → mid ≡ set work a l.weight → last ≡ set mid b v → last ≡ note_pair n part l i work
+  pub pair_written : {a b : ℕ} {v : ℤ} → t ≡ true → a ≡ spot_of n part l.from l.to → b ≡ spot_of n (part + 1) l.from l.to → v ≡ pos i
+      → set (set work a l.weight) b v ≡ note_pair n part l i work
   unfolding note_pair
-  pair_written f ea eb ev e g = rw (below_is ∙ f, g, e, ea, eb, ev, add-one part)
+  pair_written f ea eb ev = rw (below_is ∙ f, ea, eb, ev, add-one part)
 
 -- a line for open pairs alone is not noted in the strict table, and any other is
 pub strict_none : (n : ℕ) (l : Line) (i : ℕ) (work : List ℤ) → (l.kind ≡ 5) ⊎ (l.kind ≡ 9) → work ≡ note_strict n l i work

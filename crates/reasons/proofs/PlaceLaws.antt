@@ -15,7 +15,7 @@ use Rattle.lowering.proofs.Laws.ReadyFile.{ready_points, ready_in_range}
 use Rattle.chain.specs.Lines.{Line}
 use Rattle.chain.specs.Reasons.{each}
 use Rattle.reasons.specs.declared.Place.{Place}
-use Rattle.reasons.specs.Stands.{steps_of, outer_of, middle_of, inner_of, outer, middle, inner, through, after, Moves, Placed, left_of}
+use Rattle.reasons.specs.Stands.{steps_of, outer_of, middle_of, inner_of, outer, middle, inner, through, after, Moves, Placed, TryLeft, left_of}
 
 -- ---- how often loops turn
 
@@ -197,3 +197,13 @@ placed_most {s} {n} {m} {k} {at} r q =
 -- there is a point
 pub some_point : {s : List ℕ} {n m k : ℕ} → Ready s n m k → 0 < (plan_of s).points
 some_point {s} {n} {m} {k} r = (ready_in_range s n m k r).some_point
+
+-- before the ends of its loops a try is left
+pub try_before : {s : List ℕ} {n m k : ℕ} (r : Ready s n m k) (at : Place) {turns rows columns : ℕ} → turns ≡ outer_of n m k at.phase → at.a < turns
+    → rows ≡ middle_of n k at.phase → at.b < rows → columns ≡ inner_of n at.phase → at.c < columns → TryLeft (plan_of s) at
+try_before {s} {n} {m} {k} r at eo ha em hb ei hc =
+    record {
+      a = omega (arith, outer_is s n m k r at.phase);
+      b = omega (arith, middle_is s n m k r at.phase);
+      c = omega (arith, inner_is s n m k r at.phase);
+    }

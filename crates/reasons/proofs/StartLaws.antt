@@ -1,5 +1,5 @@
 -- The work room before any line: the loops that write it, one cell after another, and that it then holds the bests of no line. Assumes nothing.
-use mathlib.Core.Path.{◌≡◌, refl, sym, ap, subst, ◌∙◌}
+use mathlib.Core.Path.{◌≡◌, refl, sym, ap, ◌∙◌}
 use mathlib.Core.Logic.{⊎_elim}
 use mathlib.Core.List.{List, []}
 use Prim.Native.Nat.{ℕ, suc, ◌+◌, ◌*◌, ◌≤◌, ◌<◌}
@@ -23,88 +23,26 @@ use Rattle.offers.proofs.OfferLaws.{spot_below}
 use Rattle.reasons.specs.Starting.{Between, Diagonal}
 use Rattle.reasons.proofs.NoteLaws.{spot_part, spot_row, spot_column}
 
--- ---- a stretch of cells
-
--- those from one index on and before i written
-pub record Filling (from to : ℕ) (c : ℤ) (i : ℕ) (start now : List ℤ) : Type 0 where
-  pub low : from ≤ i
-  pub high : i ≤ to
-  pub done : Between from i c start now
-
-module _ {from to : ℕ} {c : ℤ} where
-  pub filling_none : {t : List ℤ} → from ≤ to → Filling from to c from t t
-  filling_none h =
-      record {
-        low = omega arith;
-        high = h;
-        done = record {
-          length_same = refl;
-          all_same = λ j a b. absurd (omega arith);
-          before_same = λ j a. refl;
-          beyond_same = λ j a. refl;
-        };
-      }
-
-  module _ {i : ℕ} {start now : List ℤ} (f : Filling from to c i start now) where
-    pub filling_more : {next : List ℤ} → i < to → to ≤ length start → next ≡ set now i c → Filling from to c (i + 1) start next
-    filling_more h room e =
-        let d = f.done in
-        let within : i < length now = omega (arith, d.length_same) in
-        rw e
-        (record {
-          low = omega (arith, f.low);
-          high = omega arith;
-          done = record {
-            length_same = length-set now i c ∙ d.length_same;
-            all_same = λ j a b. ⊎_elim
-                (λ (q : j ≡ i). rw q (get_or-set_same now i c (pos 0) within))
-                (λ (k : j < i). get_or-set_other now i j c (pos 0) (omega arith) ∙ d.all_same j a k)
-                (eq-or-lt_of_le (omega arith));
-            before_same = λ j a. get_or-set_other now i j c (pos 0) (omega (arith, f.low)) ∙ d.before_same j a;
-            beyond_same = λ j a. get_or-set_other now i j c (pos 0) (omega arith) ∙ d.beyond_same j (omega arith);
-          };
-        })
-
-    pub filling_all : to ≤ i → Between from to c start now
-    filling_all h =
-        let e : i ≡ to = omega (arith, f.high) in
-        subst (λ (k : ℕ). Between from k c start now) e f.done
-
 -- ---- a diagonal
 
-pub record Crossing (n part x : ℕ) (start now : List ℤ) : Type 0 where
-  pub high : x ≤ n
-  pub done : Diagonal n part x start now
+pub diagonal_none : {n part : ℕ} {t : List ℤ} → Diagonal n part 0 t t
+diagonal_none = record { length_same = refl; on = λ x h. absurd (omega arith); off = λ i h. refl }
 
-module _ {n part : ℕ} where
-  pub crossing_none : {t : List ℤ} → Crossing n part 0 t t
-  crossing_none = record { high = omega arith; done = record { length_same = refl; on = λ x h. absurd (omega arith); off = λ i h. refl } }
-
-  module _ {x : ℕ} {start now : List ℤ} (f : Crossing n part x start now) where
-    pub crossing_more : {next : List ℤ} {at : ℕ} {v : ℤ} → x < n → part < 4 → 4 * (n * n) ≤ length start → at ≡ spot_of n part x x → v ≡ pos 0 → next ≡ set now at v
-        → Crossing n part (x + 1) start next
-    crossing_more {next} h hp room ea ev e =
-        let d = f.done in
-        let within : spot_of n part x x < length now = omega (arith, d.length_same, spot_below {n = n} {part = part} h h hp) in
-        rw (e, ea, ev)
-        (record {
-          high = omega arith;
-          done = record {
-            length_same = length-set now (spot_of n part x x) (pos 0) ∙ d.length_same;
-            on = λ y k. ⊎_elim
-                (λ (q : y ≡ x). rw q (get_or-set_same now (spot_of n part x x) (pos 0) (pos 0) within))
-                (λ (l : y < x). get_or-set_other now (spot_of n part x x) (spot_of n part y y) (pos 0) (pos 0)
-                (λ g. let r : y ≡ x = spot_row part part (omega arith) (omega arith) h h g in omega arith)
-                ∙ d.on y l)
-                (eq-or-lt_of_le (omega arith));
-            off = λ i k. get_or-set_other now (spot_of n part x x) i (pos 0) (pos 0) (λ g. k x (omega arith) g) ∙ d.off i (λ y l. k y (omega arith));
-          };
-        })
-
-    pub crossing_all : n ≤ x → Diagonal n part n start now
-    crossing_all h =
-        let e : x ≡ n = omega (arith, f.high) in
-        subst (λ (k : ℕ). Diagonal n part k start now) e f.done
+pub diagonal_more : {n part x : ℕ} {start now : List ℤ} → Diagonal n part x start now → x < n → part < 4 → 4 * (n * n) ≤ length now → {at : ℕ} → at ≡ spot_of n part x x
+    → {next : List ℤ} → next ≡ set now at (pos 0) → Diagonal n part (x + 1) start next
+diagonal_more {n} {part} {x} {start} {now} d h hp room ea e =
+    let within : spot_of n part x x < length now = omega (arith, room, spot_below {n = n} {part = part} h h hp) in
+    rw (e, ea)
+    (record {
+      length_same = length-set now (spot_of n part x x) (pos 0) ∙ d.length_same;
+      on = λ y k. ⊎_elim
+          (λ (q : y ≡ x). rw q (get_or-set_same now (spot_of n part x x) (pos 0) (pos 0) within))
+          (λ (l : y < x). get_or-set_other now (spot_of n part x x) (spot_of n part y y) (pos 0) (pos 0)
+          (λ g. let r : y ≡ x = spot_row part part (omega arith) (omega arith) h h g in omega arith)
+          ∙ d.on y l)
+          (eq-or-lt_of_le (omega arith));
+      off = λ i k. get_or-set_other now (spot_of n part x x) i (pos 0) (pos 0) (λ g. k x (omega arith) g) ∙ d.off i (λ y l. k y (omega arith));
+    })
 
 -- ---- all four tables
 
@@ -138,7 +76,7 @@ no_number s x y =
 
 -- cleared, the weights filled with the mark, and the points to themselves 0
 module _ {n : ℕ} {w₀ w₁ w₂ w₃ w₄ w₅ : List ℤ} {v : ℤ} (room : 4 * (n * n) ≤ length w₀) (none : cell64 v ≡ mark) (a : Filled (4 * (n * n)) (pos 0) w₀ w₁)
-    (b : Between 0 (n * n) v w₁ w₂) (c : Between (2 * (n * n)) (3 * (n * n)) v w₂ w₃) (d : Diagonal n 0 n w₃ w₄) (e : Diagonal n 2 n w₄ w₅) where
+    (b : Between (0 * (n * n)) ((0 + 1) * (n * n)) v w₁ w₂) (c : Between (2 * (n * n)) ((2 + 1) * (n * n)) v w₂ w₃) (d : Diagonal n 0 n w₃ w₄) (e : Diagonal n 2 n w₄ w₅) where
   is_mark_lem : v ≡ pos adding.mark
   is_mark_lem = number_of_lem adding.mark none
 

@@ -1,6 +1,6 @@
 -- What one step adds: joins passed by and made, and the tries of the other parts. Assumes nothing.
 use mathlib.Core.Path.{◌≡◌, refl, sym, ap, subst, ◌∙◌}
-use mathlib.Core.Logic.{◌≢◌, ◌⊎◌, inl, inr}
+use mathlib.Core.Logic.{inl, inr}
 use mathlib.Core.Bool.{Bool, true, false, cond, true≢false}
 use mathlib.Core.List.{List, ◌∷◌}
 use Prim.Native.Nat.{ℕ, zero, suc, ◌+◌, ◌≤◌, ◌<◌}
@@ -24,7 +24,7 @@ use Rattle.chain.specs.Lines.{Line, start_line, limit_line, best, line_of, cells
 use Rattle.chain.specs.Reasons.{Offer, nothing, line, always, side_of, write, ended, try, joined, strict_offer, open_offer, start_offer, limit_offer, link_offer, limit_of, link_of, lower_offer, upper_offer, lower_case_at, longest_at}
 use Rattle.offers.specs.declared.Draft.{Draft}
 use Rattle.offers.specs.Work.{part_of, Standing}
-use Rattle.offers.specs.Drafts.{made_of, offer_of, added, Offers, Adds, Notable, Plain, Nothing, lowers_by, NextJoin}
+use Rattle.offers.specs.Drafts.{made_of, offer_of, added, Offers, Adds, Notable, Plain, Nothing, lowers_by, NoneBefore, Lowering}
 use Rattle.offers.proofs.OfferLaws.{weight_read, join_none, join_some, is_written, nothing_plain}
 use Rattle.reasons.specs.declared.Place.{Place}
 use Rattle.reasons.specs.Stands.{steps_of, outer, middle, inner, Moves, Placed, TryLeft}
@@ -63,8 +63,8 @@ always_adds d o ls a e g = rw (g, e) (by (eqb d.kind 0))
 
 module _ {n : ℕ} {ls : List Line} {work : List ℤ} (t : Standing n ls work) (s : Side) (kind x y z : ℕ) (hx : x < n) (hy : y < n) (hz : z < n) where
   -- the test of the cells is the test of the bests
-  lowers_is : (part : ℕ) → part ≡ part_of s → lowers_by n work part y x z ≡ belowᶜ (cells s ls x y +ᶜ cells s ls y z) (cells s ls x z)
-  lowers_is part e = rw (e, weight_read t s x y hx hy, weight_read t s y z hy hz, weight_read t s x z hx hz)
+  lowers_is : lowers_by n work (part_of s) y x z ≡ belowᶜ (cells s ls x y +ᶜ cells s ls y z) (cells s ls x z)
+  lowers_is = rw (weight_read t s x y hx hy, weight_read t s y z hy hz, weight_read t s x z hx hz)
 
   -- one that lowers the cell is written
   written : side_of kind ≡ s → belowᶜ (cells s ls x y +ᶜ cells s ls y z) (cells s ls x z) ≡ true → (d : Draft)
@@ -80,37 +80,39 @@ module _ {n : ℕ} {ls : List Line} {work : List ℤ} (t : Standing n ls work) (
           ∙ is_written l ls (cells s ls x z) (ap (λ (v : Side). cells v ls x z) o) (ap (λ (c : Cell). belowᶜ c (cells s ls x z)) (sym q) ∙ low)
           ∙ added_by d l ls (sym j ∙ e)
 
-module _ {n : ℕ} {ls : List Line} {work : List ℤ} (t : Standing n ls work) (p : Plan) (g part kind phase x y z : ℕ) (hx : x < n) (hy : y < n) (hz : z < n) where
+module _ {n : ℕ} {ls : List Line} {work : List ℤ} (t : Standing n ls work) (p : Plan) (g : ℕ) (s : Side) (kind phase x y z : ℕ) (hx : x < n) (hy : y < n) (hz : z < n) where
   -- a join that does not lower its cell adds nothing
-  pub join_passes : Joins part kind phase → lowers_by n work part y x z ≡ false → steps_of p g phase y x z ls ≡ ls
+  pub join_passes : Joins s kind phase → lowers_by n work (part_of s) y x z ≡ false → steps_of p g phase y x z ls ≡ ls
   unfolding try strict_offer open_offer
   join_passes (strict a b c) low =
-      rw (c, t.going) (join_none Strict 6 x y z ls refl refl (sym (lowers_is t Strict 6 x y z hx hy hz part a) ∙ low))
+      rw (c, t.going) (join_none Strict 6 x y z ls refl refl (sym (lowers_is t Strict 6 x y z hx hy hz) ∙ rw a at low))
   join_passes (weak a b c) low =
-      rw (c, t.going) (join_none Open 9 x y z ls refl refl (sym (lowers_is t Open 9 x y z hx hy hz part a) ∙ low))
+      rw (c, t.going) (join_none Open 9 x y z ls refl refl (sym (lowers_is t Open 9 x y z hx hy hz) ∙ rw a at low))
 
   -- and one that does adds its line
-  pub join_adds : Joins part kind phase → lowers_by n work part y x z ≡ true → (d : Draft)
-      → ((s : Side) (ls : List Line) → part ≡ part_of s → Standing n ls work → joined kind x z (best s x y ls) (best s y z ls) ≡ offer_of d)
+  pub join_adds : Joins s kind phase → lowers_by n work (part_of s) y x z ≡ true → (d : Draft)
+      → ((ls : List Line) → Standing n ls work → joined kind x z (best s x y ls) (best s y z ls) ≡ offer_of d)
       → steps_of p g phase y x z ls ≡ added d ls
   unfolding try strict_offer open_offer
   join_adds (strict a b c) low d made =
       rw (c, t.going)
-      (written t Strict 6 x y z hx hy hz refl (sym (lowers_is t Strict 6 x y z hx hy hz part a) ∙ low) d
-      (subst (λ (k : ℕ). joined k x z (best Strict x y ls) (best Strict y z ls) ≡ offer_of d) b (made Strict ls a t)))
+      (written t Strict 6 x y z hx hy hz refl (sym (lowers_is t Strict 6 x y z hx hy hz) ∙ rw a at low) d
+      (subst (λ (k : ℕ). joined k x z (best Strict x y ls) (best Strict y z ls) ≡ offer_of d) b
+      (subst (λ (q : Side). joined kind x z (best q x y ls) (best q y z ls) ≡ offer_of d) a (made ls t))))
   join_adds (weak a b c) low d made =
       rw (c, t.going)
-      (written t Open 9 x y z hx hy hz refl (sym (lowers_is t Open 9 x y z hx hy hz part a) ∙ low) d
-      (subst (λ (k : ℕ). joined k x z (best Open x y ls) (best Open y z ls) ≡ offer_of d) b (made Open ls a t)))
+      (written t Open 9 x y z hx hy hz refl (sym (lowers_is t Open 9 x y z hx hy hz) ∙ rw a at low) d
+      (subst (λ (k : ℕ). joined k x z (best Open x y ls) (best Open y z ls) ≡ offer_of d) b
+      (subst (λ (q : Side). joined kind x z (best q x y ls) (best q y z ls) ≡ offer_of d) a (made ls t))))
 
 -- ---- a step of joins
 
 -- the loops of joins go over all points
-joins_turn : {part kind phase : ℕ} (p : Plan) → Joins part kind phase → (outer p phase ≡ p.points) × (middle p phase ≡ p.points) × (inner p phase ≡ p.points)
+joins_turn : {s : Side} {kind phase : ℕ} (p : Plan) → Joins s kind phase → (outer p phase ≡ p.points) × (middle p phase ≡ p.points) × (inner p phase ≡ p.points)
 joins_turn p (strict a b c) = rw c (refl, refl, refl)
 joins_turn p (weak a b c) = rw c (refl, refl, refl)
 
-module _ (p : Plan) (g n : ℕ) (work : List ℤ) (part kind : ℕ) (at : Place) (points : p.points ≡ n) (j : Joins part kind at.phase) (ha : at.a < n) (hb : at.b < n)
+module _ (p : Plan) (g n : ℕ) (work : List ℤ) (s : Side) (kind : ℕ) (at : Place) (points : p.points ≡ n) (j : Joins s kind at.phase) (ha : at.a < n) (hb : at.b < n)
     (hc : at.c < n) (few : n ≤ 64) where
   here : (ls : List Line) → Standing p.points ls work → Standing n ls work
   here ls t = subst (λ (m : ℕ). Standing m ls work) points t
@@ -131,36 +133,35 @@ module _ (p : Plan) (g n : ℕ) (work : List ℤ) (part kind : ℕ) (at : Place)
       let turns = joins_turn p j in
       record { a = omega (arith, turns.0); b = omega (arith, turns.1); c = omega (arith, turns.2) }
 
-  passed : (z : ℕ) → NextJoin n work part at.a at.b at.c z → (ls : List Line) → Standing p.points ls work
+  passed : (z : ℕ) → at.c ≤ z → z ≤ n → NoneBefore n work (part_of s) at.a at.b at.c z → (ls : List Line) → Standing p.points ls work
       → Moves p g at (record { phase = at.phase; a = at.a; b = at.b; c = z }) ls ls
-  passed z q ls t =
-      move_passed p g at.phase at.a at.b at.c z ls q.from
-      (λ i h k. join_passes (here ls t) p g part kind at.phase at.b at.a i hb ha (omega (arith, q.to)) j (q.none_before i h k))
+  passed z from to q ls t =
+      move_passed p g at.phase at.a at.b at.c z ls from
+      (λ i h k. join_passes (here ls t) p g s kind at.phase at.b at.a i hb ha (omega arith) j (q.stays i h k))
 
-  pub join_none_left : (d : Draft) → NextJoin n work part at.a at.b at.c n → Nothing d
+  pub join_none_left : (d : Draft) → NoneBefore n work (part_of s) at.a at.b at.c n → Nothing d
       → Stepped p g work at (record { line = d; next = record { phase = at.phase; a = at.a; b = at.b; c = n } })
   join_none_left d q z =
       record {
-        moves = λ ls t. rw z.kind (passed n q ls (t left));
+        moves = λ ls t. rw z.kind (passed n (omega arith) (omega arith) q ls (t left));
         goes = within refl (inl z.kind);
         notable = subst (λ (m : ℕ). Notable m d) (sym points) (nothing_plain ha z).notable;
         placed = placed_at n (omega arith);
         falls = left_step at.phase at.a at.b at.c n hc few;
       }
 
-  pub join_one_left : (d : Draft) (z : ℕ) → NextJoin n work part at.a at.b at.c z → z ≢ n
-      → ((s : Side) (ls : List Line) → part ≡ part_of s → Standing n ls work → joined kind at.b z (best s at.b at.a ls) (best s at.a z ls) ≡ offer_of d)
+  pub join_one_left : (d : Draft) (z : ℕ) → Lowering n work (part_of s) at.a at.b at.c z
+      → ((ls : List Line) → Standing n ls work → joined kind at.b z (best s at.b at.a ls) (best s at.a z ls) ≡ offer_of d)
       → Notable n d → Stepped p g work at (record { line = d; next = record { phase = at.phase; a = at.a; b = at.b; c = z + 1 } })
-  join_one_left d z q ne made note =
-      let hz : z < n = omega (arith, q.to, ne) in
+  join_one_left d z q made note =
       record {
         moves = λ ls t from h base e.
-            rw (sym (join_adds (here ls (t left)) p g part kind at.phase at.b at.a z hb ha hz j (q.lowers hz) d made))
-            (move_step p g at.phase at.a at.b z ls from h base (passed z q ls (t left) from h base e));
+            rw (sym (join_adds (here ls (t left)) p g s kind at.phase at.b at.a z hb ha q.to j q.lowers d made))
+            (move_step p g at.phase at.a at.b z ls from h base (passed z q.from (omega (arith, q.to)) q.none_before ls (t left) from h base e));
         goes = within refl (inr (left, refl, refl));
         notable = subst (λ (m : ℕ). Notable m d) (sym points) note;
-        placed = placed_at (z + 1) (omega arith);
-        falls = left_step at.phase at.a at.b at.c (z + 1) (omega (arith, q.from)) (omega arith);
+        placed = placed_at (z + 1) (omega (arith, q.to));
+        falls = left_step at.phase at.a at.b at.c (z + 1) (omega (arith, q.from)) (omega (arith, q.to));
       }
 
 -- ---- on from a loop that is through
@@ -253,12 +254,8 @@ try_left p g work at d lc ha hb hc q =
       falls = left_step at.phase at.a at.b at.c (at.c + 1) (omega arith) (omega arith);
     }
 
--- which table joins read, and that their kind is one
-pub joins_part : {part kind phase : ℕ} → Joins part kind phase → (part ≡ 0) ⊎ (part ≡ 2)
-joins_part (strict a b c) = inl a
-joins_part (weak a b c) = inr a
-
-pub joins_kind : {part kind phase : ℕ} → Joins part kind phase → 1 ≤ kind
+-- the kind of joins is one
+pub joins_kind : {s : Side} {kind phase : ℕ} → Joins s kind phase → 1 ≤ kind
 joins_kind (strict a b c) = omega arith
 joins_kind (weak a b c) = omega arith
 
@@ -289,7 +286,7 @@ start_plain {n} {x} {d} h e =
     let kind : d.kind ≡ 1 = ap (λ (l : Line). l.kind) e in
     let from : d.from ≡ x = ap (λ (l : Line). l.from) e in
     let to : d.to ≡ 0 = ap (λ (l : Line). l.to) e in
-    let weight : d.weight.v ≡ pos 0 = ap (λ (l : Line). l.weight) e in
+    let weight : d.weight ≡ pos 0 = ap (λ (l : Line). l.weight) e in
     record {
       notable = record { from = omega arith; to = omega arith; number = rw weight (number_is adding.mark (pos 0) (omega ints)) };
       ordinary = rw kind;
@@ -303,7 +300,7 @@ limit_plain {s} {n} {m} {k} {i} {d} r h e =
     let kind : d.kind ≡ 2 = ap (λ (l : Line). l.kind) e in
     let from : d.from ≡ (limit_at s i).from = ap (λ (l : Line). l.from) e in
     let to : d.to ≡ (limit_at s i).to = ap (λ (l : Line). l.to) e in
-    let weight : d.weight.v ≡ (limit_at s i).weight = ap (λ (l : Line). l.weight) e in
+    let weight : d.weight ≡ (limit_at s i).weight = ap (λ (l : Line). l.weight) e in
     record {
       notable = record {
         from = omega (arith, q.from);

@@ -18,8 +18,8 @@ use Rattle.offers.specs.Work.{Holds}
 use Rattle.reasons.specs.declared.Run.{Run}
 use Rattle.reasons.specs.Stands.{through}
 use Rattle.reasons.specs.Notes.{laid}
-use Rattle.reasons.specs.Working.{SameLengths, Begun, Begins, Left, SweptTo, Swept, Sweeping, Worked}
-use Rattle.reasons.proofs.WorkLaws.{through_rest, same_refl, same_trans, kept_refl, kept_trans}
+use Rattle.reasons.specs.Working.{Begun, Begins, Left, SweptTo, Swept, Sweeping, Worked}
+use Rattle.reasons.proofs.WorkLaws.{through_rest, kept_refl, kept_trans}
 use Rattle.reasons.proofs.FineLaws.{fine_sweep, fine_before, fine_links, sweeps_few, before_through, given_through, sweep_through}
 
 -- ---- a list only grows
@@ -88,7 +88,6 @@ module _ {p : Plan} {n g room : ℕ} (e : p.points ≡ n) (eg : g ≡ length (be
 -- ---- the loop
 
 pub record SweepingOn (p : Plan) (n room count₀ : ℕ) (lists₀ : Lists) (work₀ : List ℤ) (count : ℕ) (lists : Lists) (work : List ℤ) : Type 0 where
-  pub same : SameLengths lists₀ lists
   pub kept : Kept (4 * (n * n)) work₀ work
   pub known : Sweeping p room count lists work
   pub stands : (first : Lists) → Swept p room first count₀ lists₀ work₀ → Swept p room first count lists work
@@ -127,7 +126,7 @@ before_few p h =
 
 module _ {p : Plan} {n g room count₀ : ℕ} {lists₀ : Lists} {work₀ : List ℤ} (e : p.points ≡ n) (eg : g ≡ length (before_links p)) (h : InRange version1 p) where
   pub sweeping_none : Sweeping p room count₀ lists₀ work₀ → SweepingOn p n room count₀ lists₀ work₀ count₀ lists₀ work₀
-  sweeping_none s = record { same = same_refl lists₀; kept = kept_refl (4 * (n * n)) work₀; known = s; stands = λ first q. q }
+  sweeping_none s = record { kept = kept_refl (4 * (n * n)) work₀; known = s; stands = λ first q. q }
 
   module _ {count : ℕ} {lists : Lists} {work : List ℤ} (q : SweepingOn p n room count₀ lists₀ work₀ count lists work) where
     pub sweeping_begins : Begins p g 3 7 room count lists work
@@ -138,7 +137,7 @@ module _ {p : Plan} {n g room count₀ : ℕ} {lists₀ : Lists} {work₀ : List
           begun = sweep_begun e eg h q.known.swept.is;
         }
 
-    module _ {run : Run} {lists' : Lists} {work' : List ℤ} (k : Kept (4 * (n * n)) work work') (s : SameLengths lists lists')
+    module _ {run : Run} {lists' : Lists} {work' : List ℤ} (k : Kept (4 * (n * n)) work work')
         (left : (base : List Line) (first : Lists) → Begun p g 3 7 room base first count lists work → Left n room (through p g 3 (7 - 3) base) first run lists' work') where
       -- what one sweep leaves
       one : {first : Lists} (t : Swept p room first count lists work) → Left n room (through p g 3 (7 - 3) (sweeps p t.times)) first run lists' work'
@@ -146,9 +145,6 @@ module _ {p : Plan} {n g room count₀ : ℕ} {lists₀ : Lists} {work₀ : List
 
       pub sweeping_kept : Kept (4 * (n * n)) work₀ work'
       sweeping_kept = kept_trans q.kept k
-
-      pub sweeping_same : SameLengths lists₀ lists'
-      sweeping_same = same_trans q.same s
 
       pub sweeping_ended : run.ended ≡ true → (first : Lists) → Swept p room first count₀ lists₀ work₀ → Worked p room first run lists' work'
       sweeping_ended t first f = let w = q.stands first f in sweep_ended e eg h w.is (one w) t
@@ -159,7 +155,6 @@ module _ {p : Plan} {n g room count₀ : ℕ} {lists₀ : Lists} {work₀ : List
       pub sweeping_more : run.ended ≡ false → SweepingOn p n room count₀ lists₀ work₀ run.lines lists' work'
       sweeping_more t =
           record {
-            same = sweeping_same;
             kept = sweeping_kept;
             known = let w = q.known.swept in record { first = q.known.first; swept = record { times = suc w.times; is = sweep_more e eg h w.is (one w) t } };
             stands = λ first f. let w = q.stands first f in record { times = suc w.times; is = sweep_more e eg h w.is (one w) t };

@@ -7,8 +7,8 @@ use Prim.Native.Nat.{ℕ, zero, suc, ◌+◌, ◌*◌, ◌-◌, ◌≤◌, ◌<�
 use native.Mathlib.Nat.{eq-or-lt_of_le}
 use native.Mathlib.Numerals.{add-one}
 use native.Mathlib.Omega.{arith}
-use lib.Dec.{eqb, ltb}
-use lib.ListN.{length, set, length-set}
+use lib.Dec.{eqb}
+use lib.ListN.{length}
 use lib.IntN.{ℤ, pos}
 use lib.Signed.{lt_z}
 use borrow.Author.Tests.{eqb-false, ne_eqb, eq-eqb}
@@ -31,8 +31,8 @@ use Rattle.reasons.specs.declared.Step.{Step}
 use Rattle.reasons.specs.declared.Run.{Run}
 use Rattle.reasons.specs.Stands.{steps_of, outer, middle, inner, through, after, Placed, TryLeft}
 use Rattle.reasons.specs.Stepping.{GoesOn, within, beyond, Stepped}
-use Rattle.reasons.specs.Notes.{taken_count, taken_work, taken_lists, closes_of, note_line, set_at, word, set_line, laid}
-use Rattle.reasons.specs.Working.{Roomy, SameLengths, Fine, Begun, Begins, Left}
+use Rattle.reasons.specs.Notes.{taken_count, taken_work, taken_lists, closes_of, note_line, set_line, laid}
+use Rattle.reasons.specs.Working.{Fine, Begun, Begins, Left}
 use Rattle.reasons.proofs.NoteLaws.{noted, note_beyond}
 
 -- ---- once the list has ended
@@ -91,55 +91,6 @@ ended_through p g from until at base hf hu ha hb hc e =
     rw same (part_rest (steps_of p g at.phase) (steps_stop p g at.phase) (outer p at.phase) (middle p at.phase) (inner p at.phase) at.a at.b at.c (through p g from i base) ha hb hc e) in
     through_rest p g from (suc i) (until - from) base (omega arith) (ap ended all ∙ e) ∙ all
 
--- ---- lengths
-
-pub same_refl : (t : Lists) → SameLengths t t
-same_refl t = record { kinds = refl; froms = refl; tos = refl; weights = refl; firsts = refl; seconds = refl }
-
-pub same_trans : {t u v : Lists} → SameLengths t u → SameLengths u v → SameLengths t v
-same_trans a b = record {
-  kinds = b.kinds ∙ a.kinds;
-  froms = b.froms ∙ a.froms;
-  tos = b.tos ∙ a.tos;
-  weights = b.weights ∙ a.weights;
-  firsts = b.firsts ∙ a.firsts;
-  seconds = b.seconds ∙ a.seconds;
-}
-
-pub same_roomy : {room : ℕ} {t u : Lists} → SameLengths t u → Roomy room t → Roomy room u
-same_roomy s r = record {
-  place = r.place;
-  kinds = omega (arith, s.kinds, r.kinds);
-  froms = omega (arith, s.froms, r.froms);
-  tos = omega (arith, s.tos, r.tos);
-  weights = omega (arith, s.weights, r.weights);
-  firsts = omega (arith, s.firsts, r.firsts);
-  seconds = omega (arith, s.seconds, r.seconds);
-}
-
-set_length : {A : Type 0} (room i : ℕ) (v : A) (t : List A) → length (set_at room i v t) ≡ length t
-set_length room i v t = by (ltb i room)
-  where
-    by : (b : Bool) → length (cond b (set t i v) t) ≡ length t
-    by true = length-set t i v
-    by false = refl
-
-pub taken_same : (room : ℕ) (d : Draft) (i : ℕ) (t : Lists) → SameLengths t (taken_lists room d i t)
-unfolding taken_lists set_line
-taken_same room d i t = by (eqb d.kind 0)
-  where
-    by : (b : Bool) → SameLengths t (cond b t (set_line room i (made_of d) t))
-    by true = same_refl t
-    by false =
-        record {
-          kinds = set_length room i d.kind t.kinds;
-          froms = set_length room i d.from t.froms;
-          tos = set_length room i d.to t.tos;
-          weights = set_length room i d.weight.v t.weights;
-          firsts = set_length room i (word d.first) t.firsts;
-          seconds = set_length room i (word d.second) t.seconds;
-        }
-
 -- ---- cells past the four tables
 
 pub kept_trans : {room : ℕ} {t u v : List ℤ} → Kept room t u → Kept room u v → Kept room t v
@@ -191,24 +142,24 @@ pub closes_other : (d : Draft) → d.from ≢ d.to → closes_of d ≡ false
 unfolding closes_of
 closes_other d n = by (eqb d.kind 0)
   where
-    by : (b : Bool) → cond b false (eqb d.from d.to && lt_z d.weight.v (pos 0)) ≡ false
+    by : (b : Bool) → cond b false (eqb d.from d.to && lt_z d.weight (pos 0)) ≡ false
     by true = refl
     by false = rw (ne_eqb d.from d.to n)
 
 -- else its weight says it
-pub closes_weight : (d : Draft) (z : ℤ) {t : Bool} → d.kind ≢ 0 → d.from ≡ d.to → cell64 d.weight.v ≡ num d.weight.v → z ≡ pos 0
-    → t ≡ belowᶜ (cell64 d.weight.v) (cell64 z) → t ≡ closes_of d
+pub closes_weight : (d : Draft) (z : ℤ) {t : Bool} → d.kind ≢ 0 → d.from ≡ d.to → cell64 d.weight ≡ num d.weight → z ≡ pos 0
+    → t ≡ belowᶜ (cell64 d.weight) (cell64 z) → t ≡ closes_of d
 unfolding closes_of adding
 closes_weight d z k e n q t =
     rw (ne_eqb d.kind 0 k, eq-eqb d.from d.to e)
-    (t ∙ ap (λ (c : Cell). belowᶜ c (cell64 z)) n ∙ ap (λ (c : Cell). belowᶜ (num d.weight.v) c) (ap cell64 q ∙ number_is adding.mark (pos 0) (omega ints)))
+    (t ∙ ap (λ (c : Cell). belowᶜ c (cell64 z)) n ∙ ap (λ (c : Cell). belowᶜ (num d.weight) c) (ap cell64 q ∙ number_is adding.mark (pos 0) (omega ints)))
 
 -- whether the list has ended then
 pub closes_is : (d : Draft) (ls : List Line) → ended ls ≡ false → ended (added d ls) ≡ closes_of d
 unfolding closes_of
 closes_is d ls g = by (eqb d.kind 0)
   where
-    by : (b : Bool) → ended (cond b ls (made_of d ∷ ls)) ≡ cond b false (eqb d.from d.to && lt_z d.weight.v (pos 0))
+    by : (b : Bool) → ended (cond b ls (made_of d ∷ ls)) ≡ cond b false (eqb d.from d.to && lt_z d.weight (pos 0))
     by true = g
     by false = refl
 
@@ -220,7 +171,6 @@ pub record Going (p : Plan) (g from until room count₀ : ℕ) (lists₀ : Lists
   pub low : from ≤ at.phase
   pub high : at.phase ≤ until
   pub fresh : at.phase ≡ until → (at.a ≡ 0) × (at.b ≡ 0) × (at.c ≡ 0)
-  pub same : SameLengths lists₀ lists
   pub kept : Kept (4 * (p.points * p.points)) work₀ work
   pub stands : (base : List Line) (first : Lists) → Begun p g from until room base first count₀ lists₀ work₀
       → Holding p.points room (after p g from at base) first count lists work × (ended (after p g from at base) ≡ false)
@@ -244,7 +194,6 @@ module _ (p : Plan) (g from until room count₀ : ℕ) (lists₀ : Lists) (work�
         low = omega arith;
         high = h;
         fresh = λ e. (refl, refl, refl);
-        same = same_refl lists₀;
         kept = kept_refl (4 * (p.points * p.points)) work₀;
         stands = λ base first b.
             rw (sym (at_first base)) (record { holds = b.holds; counted = b.counted; are = b.are }, b.going);
@@ -303,9 +252,6 @@ module _ (p : Plan) (g from until room count₀ : ℕ) (lists₀ : Lists) (work�
           → ended (after p g from r.next base) ≡ closes_of r.line
       next_ended {base} {first} b = ap ended (sym (next_is b)) ∙ closes_is r.line (after p g from at base) (q.stands base first b).1
 
-      pub going_same : SameLengths lists₀ (taken_lists room r.line count lists)
-      going_same = same_trans q.same (taken_same room r.line count lists)
-
       pub going_kept : Kept (4 * (p.points * p.points)) work₀ (taken_work p.points r.line count work)
       going_kept = kept_trans q.kept (taken_kept p.points r.line count work step.notable.from step.notable.to)
 
@@ -319,7 +265,6 @@ module _ (p : Plan) (g from until room count₀ : ℕ) (lists₀ : Lists) (work�
             low = low step.goes;
             high = high step.goes;
             fresh = fresh step.goes;
-            same = going_same;
             kept = going_kept;
             stands = λ base first b. (next_holding b, next_ended b ∙ e);
           }
@@ -369,15 +314,23 @@ module _ (p : Plan) (g from until room count₀ : ℕ) (lists₀ : Lists) (work�
 
 -- ---- a draft taken, as the code takes it
 
-pub taken_none : (n room i : ℕ) (d : Draft) (work : List ℤ) (t : Lists) → d.kind ≡ 0
-    → (i ≡ taken_count d i) × (work ≡ taken_work n d i work) × (t ≡ taken_lists room d i t)
-unfolding taken_work taken_lists
-taken_none n room i d work t z = rw z (refl, refl, refl)
+module _ (n i : ℕ) (d : Draft) (work : List ℤ) where
+  pub work_none : d.kind ≡ 0 → work ≡ taken_work n d i work
+  unfolding taken_work
+  work_none z = rw z
 
-pub taken_some : (n room i : ℕ) (d : Draft) (work work' : List ℤ) (t t' : Lists) → d.kind ≢ 0 → work' ≡ note_line n (made_of d) i work → t' ≡ set_line room i (made_of d) t
-    → (i + 1 ≡ taken_count d i) × (work' ≡ taken_work n d i work) × (t' ≡ taken_lists room d i t)
-unfolding taken_work taken_lists
-taken_some n room i d work work' t t' z ew et = rw (ne_eqb d.kind 0 z) (refl, ew, et)
+  pub work_some : {work' : List ℤ} → d.kind ≢ 0 → work' ≡ note_line n (made_of d) i work → work' ≡ taken_work n d i work
+  unfolding taken_work
+  work_some z e = rw (ne_eqb d.kind 0 z) e
+
+module _ (room i : ℕ) (d : Draft) (t : Lists) where
+  pub lists_none : d.kind ≡ 0 → t ≡ taken_lists room d i t
+  unfolding taken_lists
+  lists_none z = rw z
+
+  pub lists_some : {t' : Lists} → d.kind ≢ 0 → t' ≡ set_line room i (made_of d) t → t' ≡ taken_lists room d i t
+  unfolding taken_lists
+  lists_some z e = rw (ne_eqb d.kind 0 z) e
 
 -- ---- the same of a sound file of n points, as the code has it
 
@@ -389,9 +342,6 @@ module _ {p : Plan} {n g from until room count₀ : ℕ} {lists₀ : Lists} {wor
       → Begins p g from until room count₀ lists₀ work₀ → TryLeft p at → Known n work
   known_here {work} q hu b l = subst (λ (c : ℕ). Known c work) e (going_known p g from until room count₀ lists₀ work₀ q hu b l)
 
-  pub holds_room : Begins p g from until room count₀ lists₀ work₀ → {work : List ℤ} → Kept (4 * (n * n)) work₀ work → 4 * (n * n) ≤ length work
-  holds_room b k = omega (arith, k.length_same, subst (λ (c : ℕ). 4 * (c * c) ≤ length work₀) e b.begun.holds.room)
-
   pub kept_here : {at : Place} {count : ℕ} {lists : Lists} {work : List ℤ} → Going p g from until room count₀ lists₀ work₀ at count lists work
       → Kept (4 * (n * n)) work₀ work
   kept_here {work} q = subst (λ (c : ℕ). Kept (4 * (c * c)) work₀ work) e q.kept
@@ -401,9 +351,6 @@ module _ {p : Plan} {n g from until room count₀ : ℕ} {lists₀ : Lists} {wor
       (ew : work' ≡ taken_work n r.line count work) (el : lists' ≡ taken_lists room r.line count lists) where
     pub more_here : closes_of r.line ≡ false → Going p g from until room count₀ lists₀ work₀ r.next count' lists' work'
     more_here c = rw (ec, ew, el, ← e) (going_more p g from until room count₀ lists₀ work₀ q hu step c)
-
-    pub same_here : SameLengths lists₀ lists'
-    same_here = rw el (going_same p g from until room count₀ lists₀ work₀ q hu step)
 
     pub kept_after : Kept (4 * (n * n)) work₀ work'
     kept_after = rw (ew, ← e) (going_kept p g from until room count₀ lists₀ work₀ q hu step)

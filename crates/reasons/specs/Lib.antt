@@ -4,3 +4,5 @@ pub mod Stepping
 pub mod Notes
 pub mod Starting
 pub mod Working
+pub mod Room
+pub mod Lent

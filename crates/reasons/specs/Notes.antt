@@ -56,7 +56,7 @@ taken_lists room d i t = cond (eqb d.kind 0) t (set_line room i (made_of d) t)
 
 -- whether it closes below zero
 unfoldable pub closes_of : Draft → Bool
-closes_of d = cond (eqb d.kind 0) false (eqb d.from d.to && lt_z d.weight.v (pos 0))
+closes_of d = cond (eqb d.kind 0) false (eqb d.from d.to && lt_z d.weight (pos 0))
 
 -- the six lists as one
 abbrev pub columns : List ℕ → List ℕ → List ℕ → List ℤ → List ℕ → List ℕ → Lists

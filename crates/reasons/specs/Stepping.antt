@@ -1,5 +1,7 @@
 -- What one step of the working-out does: a line or none, and the place where it goes on. Assumes nothing.
 use Rattle.std.specs.Prelude.{◌≡◌, ◌⊎◌, List, ℕ, ◌+◌, ◌<◌, ℤ}
+use Rattle.rules.specs.declared.Side.{Side}
+use Rattle.rules.specs.declared.Side.TheVariants.{Strict, Open}
 use Rattle.rules.specs.Plan.{Plan}
 use Rattle.chain.specs.Lines.{Line}
 use Rattle.offers.specs.declared.Draft.{Draft}
@@ -26,7 +28,7 @@ pub record Stepped (p : Plan) (g : ℕ) (work : List ℤ) (at : Place) (r : Step
   pub placed : Placed p r.next
   pub falls : left_of r.next < left_of at
 
--- which joins: of strict pairs, in the first table, or of open ones, in the third
-pub data Joins (part kind phase : ℕ) : Type 0 where
-  strict : part ≡ 0 → kind ≡ 6 → phase ≡ 3 → Joins part kind phase
-  weak : part ≡ 2 → kind ≡ 9 → phase ≡ 6 → Joins part kind phase
+-- which joins: of strict pairs, or of open ones
+pub data Joins (side : Side) (kind phase : ℕ) : Type 0 where
+  strict : side ≡ Strict → kind ≡ 6 → phase ≡ 3 → Joins side kind phase
+  weak : side ≡ Open → kind ≡ 9 → phase ≡ 6 → Joins side kind phase

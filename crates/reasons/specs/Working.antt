@@ -14,25 +14,6 @@ use Rattle.reasons.specs.declared.Run.{Run}
 use Rattle.reasons.specs.Stands.{outer, middle, inner, after}
 use Rattle.reasons.specs.Notes.{laid}
 
--- so many lines fit into each of the six
-pub record Roomy (room : ℕ) (t : Lists) : Type 0 where
-  pub place : room ≤ 4_294_967_295
-  pub kinds : room ≤ length t.kinds
-  pub froms : room ≤ length t.froms
-  pub tos : room ≤ length t.tos
-  pub weights : room ≤ length t.weights
-  pub firsts : room ≤ length t.firsts
-  pub seconds : room ≤ length t.seconds
-
--- two lots of six lists that are as long as each other
-pub record SameLengths (t u : Lists) : Type 0 where
-  pub kinds : length u.kinds ≡ length t.kinds
-  pub froms : length u.froms ≡ length t.froms
-  pub tos : length u.tos ≡ length t.tos
-  pub weights : length u.weights ≡ length t.weights
-  pub firsts : length u.firsts ≡ length t.firsts
-  pub seconds : length u.seconds ≡ length t.seconds
-
 -- a list so far from which the working-out can go on: its weights and its lines are not too many, and no line leads from a point to itself
 pub record Fine (n : ℕ) (ls : List Line) : Type 0 where
   pub near : (s : Side) (x y : ℕ) → x < n → y < n → Within roomy.reach (cells s ls x y)

@@ -2,23 +2,26 @@
 // counts the lines, a second one writes them: a line past the room is not written, and the first pass is given none.
 #![tactic(auto)]
 
+mod lists;
 mod listing;
 mod notes;
 mod places;
 mod starting;
 mod stepping;
+mod work;
 mod working;
 
-ghost use Rattle.std.specs.Prelude.{◌*◌, ◌≤◌};
 ghost use Rattle.plan.specs.Layout.{plan_of};
 ghost use Rattle.plan.specs.File.{file_answer};
 ghost use Rattle.chain.specs.Call.{Reasoned};
 ghost use Rattle.reasons.specs.Notes.{columns};
 
 use listing::listed;
+use lists::Lists;
 use offers::Draft;
-use plan::{head, sound};
+use reader::read;
 use rules::{Answer, Refusal};
+use work::Work;
 
 // Where the working-out stands: in which of its seven parts, and how many steps of the three loops of that part are done.
 #[derive(Clone, Copy)]
@@ -56,13 +59,19 @@ pub fn reasons(
 ) -> Answer
     ensures { Reasoned (file_answer file.now) (plan_of file.now) (columns kinds.old froms.old tos.old weights.old firsts.old seconds.old) work.old result (columns kinds.new froms.new tos.new weights.new firsts.new seconds.new) work.new }
 {
-    sound(file)?;
-    let h = head(file);
-    let n = h.points;
-    if work.len() < 4 * ((n * n) as usize) {
+    let plan = read(file)?;
+    if work.len() < 4 * (plan.n * plan.n) {
         return Err(Refusal::ShortRoom);
     }
-    listed(
-        file, n, h.limits, h.links, kinds, froms, tos, weights, firsts, seconds, work,
-    )
+    let mut lists = Lists {
+        kinds,
+        froms,
+        tos,
+        weights,
+        firsts,
+        seconds,
+        room: 0,
+    };
+    let mut work = Work { plan, cells: work };
+    listed(&mut lists, &mut work)
 }

@@ -2,50 +2,43 @@
 ghost use Rattle.std.specs.Prelude.{◌≡◌, ◌<◌};
 ghost use Rattle.reasons.specs.Stands.{outer_of, middle_of, inner_of};
 
-pub fn outer(n: u32, m: u32, k: u32, phase: u32) -> u32
+use reader::SoundPlan;
+
+pub fn outer(plan: SoundPlan, phase: u32) -> u32
     requires { phase < 7 }
-    ensures { result ≡ outer_of n m k phase }
+    ensures { result ≡ outer_of plan.entry.n plan.entry.m plan.entry.k phase }
 {
     if phase == 1 {
-        return m;
+        return plan.m;
     }
-    if phase == 2 {
-        return k;
+    if phase == 2 || phase == 4 {
+        return plan.k;
     }
-    if phase == 4 {
-        return k;
-    }
-    n
+    plan.n as u32
 }
 
-pub fn middle(n: u32, k: u32, phase: u32) -> u32
+pub fn middle(plan: SoundPlan, phase: u32) -> u32
     requires { phase < 7 }
-    ensures { result ≡ middle_of n k phase }
+    ensures { result ≡ middle_of plan.entry.n plan.entry.k phase }
 {
     if phase < 3 {
         return 1;
     }
-    if phase == 4 {
-        return k;
+    if phase == 4 || phase == 5 {
+        return plan.k;
     }
-    if phase == 5 {
-        return k;
-    }
-    n
+    plan.n as u32
 }
 
-pub fn inner(n: u32, phase: u32) -> u32
+pub fn inner(plan: SoundPlan, phase: u32) -> u32
     requires { phase < 7 }
-    ensures { result ≡ inner_of n phase }
+    ensures { result ≡ inner_of plan.entry.n phase }
 {
     if phase == 2 {
         return 3;
     }
-    if phase == 3 {
-        return n;
-    }
-    if phase == 6 {
-        return n;
+    if phase == 3 || phase == 6 {
+        return plan.n as u32;
     }
     1
 }

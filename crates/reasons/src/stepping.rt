@@ -2,7 +2,6 @@
 ghost use Rattle.std.specs.Prelude.{◌≡◌, ◌≢◌, ℕ, ◌≤◌, ◌<◌};
 ghost use Rattle.rules.specs.Plan.{Plan};
 ghost use Rattle.plan.specs.Layout.{plan_of};
-ghost use Rattle.lowering.specs.Table.{Ready};
 ghost use Rattle.offers.specs.Work.{Known};
 ghost use Rattle.reasons.specs.Stands.{Placed, TryLeft, outer_of, middle_of, inner_of};
 ghost use Rattle.reasons.specs.Stepping.{Tried, Stepped, Joins};
@@ -10,65 +9,65 @@ ghost use Rattle.reasons.specs.Stepping.{Tried, Stepped, Joins};
 use crate::places::{inner, middle, outer};
 use crate::{Place, Step};
 use offers::{
-    Draft, join_draft, kept, limit_draft, link_draft, lower_draft, next_join, no_draft,
+    Bests, Draft, join_draft, kept, limit_draft, link_draft, lower_draft, next_join, no_draft,
     start_draft, upper_draft,
 };
+use rules::Side;
 
 // A step of joins: the next column whose cell one lowers, or the end of the row.
-fn join_step(work: &[i64], n: u32, part: u32, kind: u32, at: Place) -> Step
-    requires { (at.a < n) × (at.b < n) × (at.c < n) × (n ≤ 64) × Known n work.now × Joins part kind at.phase }
-    ensures { (p : Plan) (g : ℕ) → p.points ≡ n → Stepped p g work.now at result }
+fn join_step(work: Bests, side: Side, kind: u32, at: Place) -> Step
+    requires { (at.a < work.plan.n) × (at.b < work.plan.n) × (at.c < work.plan.n) × Known work.plan.n work.cells.now × Joins side kind at.phase }
+    ensures { (p : Plan) (g : ℕ) → p.points ≡ work.entry.plan.n → Stepped p g work.entry.cells.now at result }
 {
-    let z = next_join(work, n, part, at.a, at.b, at.c);
-    if z == n {
-        return Step {
+    match next_join(work, side, at.a, at.b, at.c) {
+        Some(z) => Step {
+            line: join_draft(work, side, kind, at.a, at.b, z),
+            next: Place {
+                phase: at.phase,
+                a: at.a,
+                b: at.b,
+                c: z + 1,
+            },
+        },
+        None => Step {
             line: no_draft(),
             next: Place {
                 phase: at.phase,
                 a: at.a,
                 b: at.b,
-                c: n,
+                c: work.plan.n as u32,
             },
-        };
-    }
-    Step {
-        line: join_draft(work, n, part, kind, at.a, at.b, z),
-        next: Place {
-            phase: at.phase,
-            a: at.a,
-            b: at.b,
-            c: z + 1,
         },
     }
 }
 
 // What the try at a place adds, of any other part than joins.
-fn try_at(file: &[u8], n: u32, m: u32, k: u32, g: u64, work: &[i64], at: Place) -> Draft
-    requires { (at.a < outer_of n m k at.phase) × (at.b < middle_of n k at.phase) × (at.c < inner_of n at.phase) × (at.phase ≤ 5) × (at.phase ≢ 3) × (g ≤ 4096) × Ready file.now n m k × Known n work.now }
-    ensures { Tried (plan_of file.now) g work.now at result }
+fn try_at(work: Bests, g: u64, at: Place) -> Draft
+    requires { (at.a < outer_of work.plan.n work.plan.m work.plan.k at.phase) × (at.b < middle_of work.plan.n work.plan.k at.phase) × (at.c < inner_of work.plan.n at.phase) × (at.phase ≤ 5) × (at.phase ≢ 3) × (g ≤ 4096) × Known work.plan.n work.cells.now }
+    ensures { Tried (plan_of work.entry.plan.file.now) g work.entry.cells.now at result }
 {
     if at.phase == 0 {
-        return kept(work, n, start_draft(at.a));
+        return kept(work, start_draft(at.a));
     }
     if at.phase == 1 {
-        return kept(work, n, limit_draft(file, n, m, k, at.a));
+        return kept(work, limit_draft(work.plan, at.a));
     }
     if at.phase == 2 {
-        return link_draft(file, n, m, k, at.a, at.c);
+        return link_draft(work.plan, at.a, at.c);
     }
     if at.phase == 4 {
-        return kept(work, n, lower_draft(file, n, m, k, g, work, at.a, at.b));
+        return kept(work, lower_draft(work, g, at.a, at.b));
     }
-    kept(work, n, upper_draft(file, n, m, k, g, work, at.a, at.b))
+    kept(work, upper_draft(work, g, at.a, at.b))
 }
 
 // One step: a try, or on from a loop that is through.
-pub fn step_at(file: &[u8], n: u32, m: u32, k: u32, g: u64, work: &[i64], at: Place) -> Step
-    requires { (at.phase < 7) × Placed (plan_of file.now) at × (g ≤ 4096) × Ready file.now n m k × (TryLeft (plan_of file.now) at → Known n work.now) }
-    ensures { Stepped (plan_of file.now) g work.now at result }
+pub fn step_at(work: Bests, g: u64, at: Place) -> Step
+    requires { (at.phase < 7) × Placed (plan_of work.plan.file.now) at × (g ≤ 4096) × (TryLeft (plan_of work.plan.file.now) at → Known work.plan.n work.cells.now) }
+    ensures { Stepped (plan_of work.entry.plan.file.now) g work.entry.cells.now at result }
 {
     let phase = at.phase;
-    if at.a >= outer(n, m, k, phase) {
+    if at.a >= outer(work.plan, phase) {
         return Step {
             line: no_draft(),
             next: Place {
@@ -79,7 +78,7 @@ pub fn step_at(file: &[u8], n: u32, m: u32, k: u32, g: u64, work: &[i64], at: Pl
             },
         };
     }
-    if at.b >= middle(n, k, phase) {
+    if at.b >= middle(work.plan, phase) {
         return Step {
             line: no_draft(),
             next: Place {
@@ -90,7 +89,7 @@ pub fn step_at(file: &[u8], n: u32, m: u32, k: u32, g: u64, work: &[i64], at: Pl
             },
         };
     }
-    if at.c >= inner(n, phase) {
+    if at.c >= inner(work.plan, phase) {
         return Step {
             line: no_draft(),
             next: Place {
@@ -102,13 +101,13 @@ pub fn step_at(file: &[u8], n: u32, m: u32, k: u32, g: u64, work: &[i64], at: Pl
         };
     }
     if phase == 3 {
-        return join_step(work, n, 0, 6, at);
+        return join_step(work, Side::Strict, 6, at);
     }
     if phase == 6 {
-        return join_step(work, n, 2, 9, at);
+        return join_step(work, Side::Open, 9, at);
     }
     Step {
-        line: try_at(file, n, m, k, g, work, at),
+        line: try_at(work, g, at),
         next: Place {
             phase,
             a: at.a,

@@ -1,35 +1,37 @@
 -- Controllable, too long a list, or the list: the room that was worked out is that of the lists as they were lent, since the pass that counts writes no line.
 use Rattle.std.proofs.Common.{◌≡◌, ap, ◌∙◌, arith}
 use borrow.Author.Tests.{not-true, not-false}
-use Rattle.whole.proofs.Place.{square_le}
-use Rattle.lowering.proofs.Laws.LinksAsRead.{few}
 use Rattle.chain.specs.Call.{room_of}
-use Rattle.reasons.specs.Notes.{columns}
-use Rattle.reasons.proofs.CallLaws.{counted_lists, room_read, answer_done, answer_long, answer_listed}
+use Rattle.reasons.specs.Lent.{lists_of}
+use Rattle.reasons.proofs.ListLaws.{room_roomy}
+use Rattle.reasons.proofs.CallLaws.{counted_lists, answer_done, answer_long, answer_listed}
 use Rattle.reasons.proofs.listing.listed.Goals as goal
 
-pub overflow_mul-cells : goal.overflow_mul-cells
-overflow_mul-cells c = omega (arith, square_le (few c.requires.0))
-
-pub returns-then-not-counted : goal.returns-then-not-counted
-returns-then-not-counted c =
+pub returns-then-not-counted-clause-reasoned : goal.returns-then-not-counted-clause-reasoned
+returns-then-not-counted-clause-reasoned c =
+    let w = c.args.work.now in
     let r = c.run-counted.ensures in
-    answer_done c.requires.0 c.requires.1 r.0 r.2 (not-true c.run-counted.result.ended c.if-not-counted.true) c.clear.ensures
+    answer_done w.plan.ready w.room r.kept (rw c.requires at r.worked) (not-true c.run-counted.result.ended c.if-not-counted.true)
+    (rw r.same.2.plan at c.clear.ensures.cells)
 
-pub returns-then-counted-room : goal.returns-then-counted-room
-returns-then-counted-room c =
-    let lent = columns c.args.kinds.now c.args.froms.now c.args.tos.now c.args.weights.now c.args.firsts.now c.args.seconds.now in
-    let after = columns c.run-counted.new.kinds c.run-counted.new.froms c.run-counted.new.tos c.run-counted.new.weights c.run-counted.new.firsts c.run-counted.new.seconds in
-    let r = c.run-counted.ensures in
-    let room : c.room_of-room.result ≡ room_of lent = room_read after c.room_of-room.ensures ∙ ap room_of (counted_lists c.requires.0 c.requires.1 r.0 r.2) in
-    answer_long c.requires.0 c.requires.1 r.0 r.2 (not-false c.run-counted.result.ended c.if-not-counted.false) (omega (arith, room, c.if-counted-room.true)) c.clear-then-counted-room.ensures
+pub invariant_of-lists : goal.invariant_of-lists
+invariant_of-lists c = record { roomy = rw c.most-lists.ensures (room_roomy (lists_of c.run-counted.new.lists)) }
 
-pub returns : goal.returns
-returns c =
-    let lent = columns c.args.kinds.now c.args.froms.now c.args.tos.now c.args.weights.now c.args.firsts.now c.args.seconds.now in
-    let after = columns c.run-counted.new.kinds c.run-counted.new.froms c.run-counted.new.tos c.run-counted.new.weights c.run-counted.new.firsts c.run-counted.new.seconds in
+pub returns-then-counted-lists-clause-reasoned : goal.returns-then-counted-lists-clause-reasoned
+returns-then-counted-lists-clause-reasoned c =
+    let w = c.args.work.now in
     let r = c.run-counted.ensures in
-    let room : c.room_of-room.result ≡ room_of lent = room_read after c.room_of-room.ensures ∙ ap room_of (counted_lists c.requires.0 c.requires.1 r.0 r.2) in
+    let worked = rw c.requires at r.worked in
+    let room : c.most-lists.result ≡ room_of (lists_of c.args.lists.now) = c.most-lists.ensures ∙ ap room_of (counted_lists w.plan.ready w.room r.kept worked) in
+    answer_long w.plan.ready w.room r.kept worked (not-false c.run-counted.result.ended c.if-not-counted.false) (omega (arith, room, c.if-counted-lists.true))
+    (rw r.same.2.plan at c.clear-then-counted-lists.ensures.cells)
+
+pub returns-clause-reasoned : goal.returns-clause-reasoned
+returns-clause-reasoned c =
+    let w = c.args.work.now in
+    let r = c.run-counted.ensures in
+    let worked = rw c.requires at r.worked in
+    let room : c.most-lists.result ≡ room_of (lists_of c.args.lists.now) = c.most-lists.ensures ∙ ap room_of (counted_lists w.plan.ready w.room r.kept worked) in
     let v = c.run.ensures in
-    answer_listed c.requires.0 c.requires.1 r.0 r.2 (not-false c.run-counted.result.ended c.if-not-counted.false) (omega (arith, room, c.if-counted-room.false)) v.0 (rw room at v.2)
-    c.clear-2.ensures
+    answer_listed w.plan.ready w.room r.kept worked (not-false c.run-counted.result.ended c.if-not-counted.false) (omega (arith, room, c.if-counted-lists.false))
+    (rw r.same.2.plan at v.kept) (rw (r.same.2.plan, room) at v.worked) (rw (v.same.2.plan ∙ r.same.2.plan) at c.clear-2.ensures.cells)

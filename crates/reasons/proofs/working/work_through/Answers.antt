@@ -1,52 +1,78 @@
 -- A turn of the loop for each step, and the place falls.
 use Rattle.std.proofs.Common.{refl, sym, ◌∙◌, arith}
 use Rattle.plan.specs.Layout.{plan_of}
-use Rattle.lowering.proofs.Laws.LinksAsRead.{few}
 use Rattle.lowering.proofs.Laws.ReadyFile.{ready_points}
-use Rattle.reasons.proofs.WorkLaws.{going_none, going_few, known_here, notable_here, kept_here, more_here, same_here, kept_after, ended_here, done_here, same_roomy, holds_room}
+use Rattle.reasons.proofs.LentLaws.{lists_refl, lists_trans, work_refl, work_trans}
+use Rattle.reasons.proofs.WorkLaws.{going_none, going_few, known_here, notable_here, kept_here, more_here, kept_after, ended_here, done_here}
 use Rattle.reasons.proofs.working.work_through.Goals as goal
 
 pub loop-at-init : goal.loop-at-init
-loop-at-init c = going_none (plan_of c.args.file.now) c.args.g c.args.from c.args.until c.args.room c.args.count _ c.args.work.now c.requires.1
+loop-at-init c =
+    let a = c.args in
+    record {
+      lists_same = lists_refl;
+      room_same = refl;
+      work_same = work_refl;
+      going = going_none (plan_of a.work.now.plan.file.now) a.g a.from a.until a.lists.now.room a.count _ a.work.now.cells.now c.requires.1;
+    }
 
 pub step_at-step-requires : goal.step_at-step-requires
 step_at-step-requires c =
-    let e = ready_points c.args.file.now c.args.n c.args.m c.args.k c.requires.3 in
+    let p = c.args.work.now.plan in
+    let e = ready_points p.file.now p.n p.m p.k p.ready in
     let q = c.loop-at.invariant in
-    (omega (arith, c.requires.2, c.loop-at-test.true), q.placed, c.requires.0, c.requires.3, known_here e q c.loop-at-test.true c.requires.5)
+    rw (c.bests.ensures.0, c.bests.ensures.1, q.work_same.plan)
+    (omega (arith, c.requires.2, c.loop-at-test.true), q.going.placed, c.requires.0, known_here e q.going c.loop-at-test.true c.requires.3)
 
 pub take-lines-requires : goal.take-lines-requires
 take-lines-requires c =
-    let e = ready_points c.args.file.now c.args.n c.args.m c.args.k c.requires.3 in
+    let a = c.args in
+    let p = a.work.now.plan in
+    let e = ready_points p.file.now p.n p.m p.k p.ready in
     let q = c.loop-at.invariant in
-    let step = c.step_at-step.ensures in (
-      notable_here e step,
-      few c.requires.3,
-      going_few (plan_of c.args.file.now) c.args.g c.args.from c.args.until c.args.room c.args.count _ c.args.work.now q c.loop-at-test.true step c.requires.5,
-      holds_room e c.requires.5 (kept_here e q),
-      same_roomy q.same c.requires.4,
-    )
+    let step = rw (c.bests.ensures.0, c.bests.ensures.1, q.work_same.plan) at c.step_at-step.ensures in
+    rw q.work_same.plan
+    (notable_here e step,
+    going_few (plan_of p.file.now) a.g a.from a.until a.lists.now.room a.count _ a.work.now.cells.now q.going c.loop-at-test.true step c.requires.3)
 
-pub returns-then-closes : goal.returns-then-closes
-returns-then-closes c =
-    let e = ready_points c.args.file.now c.args.n c.args.m c.args.k c.requires.3 in
+pub returns-then-closes-clause-kept : goal.returns-then-closes-clause-kept
+returns-then-closes-clause-kept c =
+    let p = c.args.work.now.plan in
+    let e = ready_points p.file.now p.n p.m p.k p.ready in
     let q = c.loop-at.invariant in
-    let u = c.loop-at-test.true in
-    let step = c.step_at-step.ensures in
-    let t = c.take-lines.ensures in (
-      kept_after e q u step _ _ _ t.0 t.1 t.2,
-      same_here e q u step _ _ _ t.0 t.1 t.2,
-      ended_here e q u step _ _ _ t.0 t.1 t.2 _ refl refl (sym c.closes.ensures ∙ c.if-closes.true),
-    )
+    let step = rw (c.bests.ensures.0, c.bests.ensures.1, q.work_same.plan) at c.step_at-step.ensures in
+    let t = c.take-lines.ensures in
+    kept_after e q.going c.loop-at-test.true step _ _ _ t.lines (rw q.work_same.plan at t.cells) (rw q.room_same at t.lists)
+
+pub returns-then-closes-clause-left : goal.returns-then-closes-clause-left
+returns-then-closes-clause-left c =
+    let p = c.args.work.now.plan in
+    let e = ready_points p.file.now p.n p.m p.k p.ready in
+    let q = c.loop-at.invariant in
+    let step = rw (c.bests.ensures.0, c.bests.ensures.1, q.work_same.plan) at c.step_at-step.ensures in
+    let t = c.take-lines.ensures in
+    ended_here e q.going c.loop-at-test.true step _ _ _ t.lines (rw q.work_same.plan at t.cells) (rw q.room_same at t.lists) _ refl refl (sym c.closes.ensures ∙ c.if-closes.true)
 
 pub loop-at-preserved : goal.loop-at-preserved
 loop-at-preserved c =
-    let e = ready_points c.args.file.now c.args.n c.args.m c.args.k c.requires.3 in
-    let t = c.take-lines.ensures in
-    more_here e c.loop-at.invariant c.loop-at-test.true c.step_at-step.ensures _ _ _ t.0 t.1 t.2 (sym c.closes.ensures ∙ c.if-closes.false)
-
-pub returns : goal.returns
-returns c =
-    let e = ready_points c.args.file.now c.args.n c.args.m c.args.k c.requires.3 in
+    let p = c.args.work.now.plan in
+    let e = ready_points p.file.now p.n p.m p.k p.ready in
     let q = c.loop-at.invariant in
-    (kept_here e q, q.same, done_here e q c.loop-at-test.false _ refl refl)
+    let step = rw (c.bests.ensures.0, c.bests.ensures.1, q.work_same.plan) at c.step_at-step.ensures in
+    let t = c.take-lines.ensures in
+    record {
+      lists_same = lists_trans q.lists_same t.same.0;
+      room_same = t.same.1 ∙ q.room_same;
+      work_same = work_trans q.work_same t.same.2;
+      going = more_here e q.going c.loop-at-test.true step _ _ _ t.lines (rw q.work_same.plan at t.cells) (rw q.room_same at t.lists) (sym c.closes.ensures ∙ c.if-closes.false);
+    }
+
+pub returns-clause-kept : goal.returns-clause-kept
+returns-clause-kept c =
+    let p = c.args.work.now.plan in
+    kept_here (ready_points p.file.now p.n p.m p.k p.ready) c.loop-at.invariant.going
+
+pub returns-clause-left : goal.returns-clause-left
+returns-clause-left c =
+    let p = c.args.work.now.plan in
+    done_here (ready_points p.file.now p.n p.m p.k p.ready) c.loop-at.invariant.going c.loop-at-test.false _ refl refl
