@@ -1,6 +1,6 @@
 -- The rounds of the code from the first tables to their end: where both tables stand, what one more round does to the height of the strict one, and what is shown where it
 -- stays or a table is unfair. Of a file that is Ready, at version 1's ranges. Assumes nothing.
-use mathlib.Core.Path.{◌≡◌, refl, sym, ap, subst, ◌∙◌}
+use mathlib.Core.Path.{◌≡◌, sym, ap, subst, ◌∙◌}
 use mathlib.Core.Logic.{◌⊎◌, ⊎_elim}
 use mathlib.Core.List.{List}
 use Prim.Native.Nat.{ℕ, ◌*◌, ◌≤◌}
@@ -14,14 +14,13 @@ use Rattle.rules.specs.Tables.{Tables}
 use Rattle.rules.specs.Calls.{cells_of, Kept, Written}
 use Rattle.rules.proofs.Demands.{version1_coherent}
 use Rattle.plan.specs.Layout.{limit_at, link_at, plan_of}
-use Rattle.lowering.specs.Table.{Sound, Ready}
+use Rattle.lowering.specs.Table.{Ready}
 use Rattle.lowering.specs.Sweep.{join_all, first_strict, heights}
 use Rattle.lowering.specs.Spread.{Copied, Opened, case_edges, strict_round, open_round}
 use Rattle.lowering.specs.Fair.{Fair, Unfair}
 use Rattle.tables.specs.Ends.{Refused}
 use Rattle.lowering.proofs.Theory.LoweredTables.{Lowered}
 use Rattle.lowering.proofs.Theory.HeightsFall.{lowered_heights, same_heights}
-use Rattle.lowering.proofs.Laws.LinksAsRead.{link_points}
 use Rattle.lowering.proofs.Laws.ReadyFile.{ready_points, ready_few, ready_pointed, ready_weighted, ready_limits, ready_links}
 use Rattle.lowering.proofs.Theory.WalksKept.{has_open}
 use Rattle.lowering.proofs.Theory.SpreadSteps.{strict_round_lowered, open_round_lowered}
@@ -35,37 +34,12 @@ pub record Standing (s : List ℕ) (m k : ℕ) (strict₀ weak₀ strict weak : 
   pub strict_kept : Kept (cells_of (plan_of s)) strict₀ strict
   pub open_kept : Kept (cells_of (plan_of s)) weak₀ weak
 
--- a list is past the room as it was
-kept_refl : (m : ℕ) (t : List ℤ) → Kept m t t
-kept_refl m t = record { length_same = refl; beyond_same = λ i h. refl }
-
--- from where they stand
-pub standing_here : {s : List ℕ} {m k : ℕ} {a b u v : List ℤ} → Standing s m k a b u v → Standing s m k u v u v
-standing_here {s} {m} {k} {a} {b} {u} {v} t =
-    record { rounds = t.rounds; strict_kept = kept_refl (cells_of (plan_of s)) u; open_kept = kept_refl (cells_of (plan_of s)) v }
-
--- one stretch after another
-pub standing_after : {s : List ℕ} {m k : ℕ} {a b u v x y : List ℤ} → Standing s m k a b u v → Standing s m k u v x y → Standing s m k a b x y
-standing_after s t =
-    record {
-      rounds = t.rounds;
-      strict_kept = kept_trans s.strict_kept t.strict_kept;
-      open_kept = kept_trans s.open_kept t.open_kept;
-    }
-
 module _ {s : List ℕ} {n m k : ℕ} (r : Ready s n m k) where
   same_points : (plan_of s).points ≡ n
   same_points = ready_points s n m k r
 
   few_points : (plan_of s).points ≤ version1.points
   few_points = omega (arith, ready_few s n m k r, same_points)
-
-  -- both are tables that a sweep stores
-  pub standing_strict : {a b u v : List ℤ} → Standing s m k a b u v → Sound version1 n u
-  standing_strict {u = u} t = subst (λ (c : ℕ). Sound version1 c u) same_points t.rounds.strict_carried.walks.sound
-
-  pub standing_open : {a b u v : List ℤ} → Standing s m k a b u v → Sound version1 n v
-  standing_open {v = v} t = subst (λ (c : ℕ). Sound version1 c v) same_points t.rounds.open_carried.walks.sound
 
   -- ---- the first tables
 
@@ -81,10 +55,6 @@ module _ {s : List ℕ} {n m k : ℕ} (r : Ready s n m k) where
         subst (Carried (edges.Derivable (plan_of s)) (plan_of s) version1) joined_is
         (joined_carried (plan_of s) version1 version1_coherent (ready_pointed s n m k r) (ready_weighted s n m k r) few_points (limit_at s) m
         (ready_limits s n m k r) (link_at s m) k (ready_links s n m k r) a room)
-
-    -- the strict one is one that a sweep stores
-    pub first_sound : Sound version1 n u
-    first_sound = subst (λ (c : ℕ). Sound version1 c u) same_points carried.walks.sound
 
     -- with the lower-case edges taken, both stand
     pub standing_first : (b : List ℤ) {w : List ℤ} → n * n ≤ length b → Opened version1 n (link_at s m) k u b w → Standing s m k a b u w
@@ -116,10 +86,6 @@ module _ {s : List ℕ} {n m k : ℕ} (r : Ready s n m k) where
         }
 
   -- ---- one round
-
-  -- after a round of any table that a sweep stores, it is one
-  pub round_sound : (x u : List ℤ) → Sound version1 n x → u ≡ strict_round version1 n (link_at s m) k x → Sound version1 n u
-  round_sound x u h e = rw e (strict_round_lowered version1 version1_coherent n (link_at s m) k (link_points r) x h).sound
 
   module _ {a b x y : List ℤ} (t : Standing s m k a b x y) {u : List ℤ} (eu : u ≡ strict_round version1 n (link_at s m) k x) where
     strict_is : strict_round version1 (plan_of s).points (link_at s m) k x ≡ u

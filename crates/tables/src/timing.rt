@@ -4,6 +4,7 @@ ghost use Rattle.rules.specs.Plan.{Plan, version1};
 ghost use Rattle.rules.specs.Calls.{TimesOf};
 ghost use Rattle.lowering.specs.Table.{Sound};
 
+use cell::Word;
 use joining::get;
 
 // A time for each point, of any plan of n points.
@@ -11,11 +12,7 @@ pub fn times_all(strict: &[i32], n: usize, times: &mut [i32])
     requires { (n ≤ 64) × Sound version1 n strict.now × (n ≤ length times.old) }
     ensures { (p : Plan) → p.points ≡ n → TimesOf version1 p strict.now times.old times.new }
 {
-    let mut x = 0;
-    while x < n {
-        let c = get(strict, n, x, 0).negated();
-        let v = c.v;
-        times[x] = v;
-        x += 1;
+    for x in 0..n {
+        times[x] = get(strict, n, x, 0).negated();
     }
 }

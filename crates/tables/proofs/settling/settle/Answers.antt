@@ -1,42 +1,59 @@
--- `settling::settle` meets its contract, by the laws of a round. Assumes nothing.
-use Rattle.lowering.proofs.Common.{refl, sym, ◌∙◌, arith, few, looked_yes, looked_no}
-use Rattle.tables.proofs.SettleLoop.{standing_here, standing_after, standing_strict, standing_open, first_sound, standing_first}
-use Rattle.tables.proofs.SettleLoop.{round_sound, round_falls, standing_on, standing_ends, standing_unfair}
+-- By the laws of a round: the first tables stand, a fair round leaves them standing and falls, and one that stays or is unfair ends. Assumes nothing.
+use Rattle.lowering.proofs.Common.{refl, sym, ◌∙◌, arith, rules, looked_yes, looked_no}
+use Rattle.tables.proofs.SettleLoop.{standing_first, round_falls, standing_on, standing_ends, standing_unfair}
 use Rattle.tables.proofs.settling.settle.Goals as goal
 
-pub opened-requires : goal.opened-requires
-opened-requires c = search first_sound
-
-pub strict_height-last-requires : goal.strict_height-last-requires
-strict_height-last-requires c = search (few, first_sound)
-
-pub loop-n-init : goal.loop-n-init
-loop-n-init c =
-    (standing_here (standing_first c.requires.0 c.args.strict.now c.requires.1 (search) c.args.«open».now c.requires.2 (search)), search)
-
-pub both_fair-requires : goal.both_fair-requires
-both_fair-requires c = search (few, standing_strict, standing_open)
+pub rounds-init : goal.rounds-init
+rounds-init c =
+    let s = c.joined_strict-strict_table.ensures in
+    let o = c.opened-open_table.ensures in
+    let opened = rw c.read.ensures.1 at o.opened in
+    let height = rw (c.read-2.ensures.0, c.read-2.ensures.1, s.same_size) at c.height_all-last.ensures in (
+      standing_first c.args.plan.ready c.args.strict.now c.requires.0 s.cells c.args.«open».now c.requires.1 opened,
+      height,
+      s.same_size,
+      o.same_size,
+      refl,
+      refl,
+    )
 
 pub returns-then-not-both_fair : goal.returns-then-not-both_fair
 returns-then-not-both_fair c =
-    let first = standing_first c.requires.0 c.args.strict.now c.requires.1 (search) c.args.«open».now c.requires.2 (search) in
-    looked_no (standing_unfair c.requires.0 (standing_after first c.loop-n.invariant.0) (c.both_fair.ensures.fails c.if-not-both_fair.true))
-
-pub strict_height-next-requires : goal.strict_height-next-requires
-strict_height-next-requires c =
-    (few c.requires.0, round_sound c.requires.0 _ _ (standing_strict c.requires.0 c.loop-n.invariant.0) c.strict_round.ensures)
+    let i = c.rounds.invariant in
+    let s = c.read-in-rounds.ensures in
+    let o = c.read-in-rounds-2.ensures in
+    let unfair = rw (s.0, s.1, o.0, o.1, i.2, i.3) at (c.both_fair.ensures.fails c.if-not-both_fair.true) in
+    looked_no (search (standing_unfair c.args.plan.ready i.0 unfair, rules))
 
 pub returns-then-next-last : goal.returns-then-next-last
 returns-then-next-last c =
-    let first = standing_first c.requires.0 c.args.strict.now c.requires.1 (search) c.args.«open».now c.requires.2 (search) in
-    let fair = c.both_fair.ensures.holds c.if-not-both_fair.false in
+    let i = c.rounds.invariant in
+    let a = c.strict_round.ensures in
+    let s = c.read-in-rounds.ensures in
+    let o = c.read-in-rounds-2.ensures in
+    let fair = rw (s.0, s.1, o.0, o.1, i.2, i.3) at (c.both_fair.ensures.holds c.if-not-both_fair.false) in
+    let next = rw (c.read-in-rounds-3.ensures.0, c.read-in-rounds-3.ensures.1, a.same_size, i.2) at c.height_all-next.ensures in
     looked_yes
-    (standing_ends c.requires.0 (standing_after first c.loop-n.invariant.0) c.strict_round.ensures
-    (sym c.strict_height-next.ensures ∙ (c.if-next-last.true ∙ c.loop-n.invariant.1)) fair.0 fair.1)
+    (search (standing_ends c.args.plan.ready i.0 (rw i.2 at a.cells) (sym next ∙ (c.if-next-last.true ∙ i.1)) fair.0 fair.1, rules))
 
-pub loop-n-smaller : goal.loop-n-smaller
-loop-n-smaller c = omega (arith, round_falls c.requires.0 c.loop-n.invariant.0 c.strict_round.ensures)
+pub rounds-smaller : goal.rounds-smaller
+rounds-smaller c =
+    let i = c.rounds.invariant in
+    let a = c.strict_round.ensures in
+    let next = rw (c.read-in-rounds-3.ensures.0, c.read-in-rounds-3.ensures.1, a.same_size, i.2) at c.height_all-next.ensures in
+    omega (arith, round_falls c.args.plan.ready i.0 (rw i.2 at a.cells), next, i.1)
 
-pub loop-n-preserved : goal.loop-n-preserved
-loop-n-preserved c =
-    (standing_on c.requires.0 c.loop-n.invariant.0 c.strict_round.ensures c.open_round.ensures, c.strict_height-next.ensures)
+pub rounds-preserved : goal.rounds-preserved
+rounds-preserved c =
+    let i = c.rounds.invariant in
+    let a = c.strict_round.ensures in
+    let b = c.open_round.ensures in
+    let next = rw (c.read-in-rounds-3.ensures.0, c.read-in-rounds-3.ensures.1, a.same_size, i.2) at c.height_all-next.ensures in
+    let follows = rw (i.3, c.read-in-rounds-4.ensures.1) at b.cells in (
+      standing_on c.args.plan.ready i.0 (rw i.2 at a.cells) follows,
+      next,
+      a.same_size ∙ i.2,
+      b.same_size ∙ i.3,
+      a.same_list ∙ i.4,
+      b.same_list ∙ i.5,
+    )
