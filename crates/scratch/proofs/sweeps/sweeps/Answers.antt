@@ -12,7 +12,7 @@ pub returns-then-not-fair-clause-settled : goal.returns-then-not-fair-clause-set
 returns-then-not-fair-clause-settled c =
     let no = settled_no c.loop-first.invariant c.sweep.ensures.strict c.sweep.ensures.weak c.read-first.ensures c.read-second.ensures in
     elim c.then-not-fair.branch [
-      then-not-fair-via-then-not-fair w ↦ no (inl (c.fair.ensures.fails w.if-not-fair.true))
+      | then-not-fair-via-then-not-fair w ↦ no (inl (c.fair.ensures.fails w.if-not-fair.true))
       | then-not-fair-via-else-not-fair+then-not-fair-2 w ↦ no (inr (w.fair-else-not-fair.ensures.fails w.if-not-fair-2.true))
     ]
 
