@@ -2,8 +2,8 @@
 use mathlib.Core.Logic.{inl, inr}
 use Rattle.lowering.proofs.Common.{arith, ◌≤◌}
 use Rattle.scratch.proofs.AddSweeps.{sweeping_none, sweeping_more, sweeping_falls, settled_no, settled_yes}
-use Rattle.scratch.proofs.sweeps.sweeps.Goals as goal
-use Rattle.scratch.proofs.sweeps.sweeps.Goals.{then-not-fair-via-then-not-fair, then-not-fair-via-else-not-fair+then-not-fair-2}
+use Rattle.scratch.proofs.settling.sweeps.Goals as goal
+use Rattle.scratch.proofs.settling.sweeps.Goals.{then-not-fair-via-then-not-fair, then-not-fair-via-else-not-fair+then-not-fair-2}
 
 pub loop-first-init : goal.loop-first-init
 loop-first-init c = sweeping_none c.requires.0 c.requires.1 c.read.ensures c.read-2.ensures c.both_heights-last.ensures
