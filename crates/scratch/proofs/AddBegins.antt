@@ -1,11 +1,11 @@
 -- Laws of what Add's sweeps start from. Assumes nothing.
-use mathlib.Core.Path.{◌≡◌, sym, subst, ◌∙◌}
+use mathlib.Core.Path.{◌≡◌, sym, ap, subst, ◌∙◌}
 use mathlib.Core.List.{List, ◌++◌}
-use Prim.Native.Nat.{ℕ, zero, ◌+◌, ◌*◌, ◌<◌}
+use Prim.Native.Nat.{ℕ, ◌+◌, ◌*◌, ◌<◌}
 use native.Mathlib.Omega.{arith}
-use lib.ListN.{length, drop, length-set}
-use lib.Seq.{get_or-drop}
-use lib.IntN.{ℤ, pos}
+use lib.ListN.{length, take, drop, length-set}
+use lib.Seq.{take_at, drop_at}
+use lib.IntN.{ℤ}
 use Rattle.whole.proofs.Place.{inside}
 use Rattle.rules.specs.Plan.{Limit, version1}
 use Rattle.rules.specs.Cells.{table_of}
@@ -14,19 +14,14 @@ use Rattle.lowering.specs.Table.{Sound}
 use Rattle.lowering.specs.Sweep.{lower_cell, limit_cell, first_open}
 use Rattle.lowering.specs.Fair.{AllWithin}
 use Rattle.wide.proofs.AddStart.{within_wide}
-use Rattle.scratch.specs.Copies.{SameCells, InReach}
+use Rattle.scratch.specs.Copies.{SameCells}
 use Rattle.scratch.specs.Begun.{Begun}
-use Rattle.scratch.proofs.ScratchParts.{first_part, second_part}
 
 -- cells that are the same by their index are the same by row and column
 pub same_table : (n : ℕ) (wide narrow : List ℤ) → SameCells (n * n) wide narrow → (x y : ℕ) → x < n → y < n
     → table_of adding n wide x y ≡ table_of version1 n narrow x y
 unfolding table_of
 same_table n wide narrow h x y hx hy = h (x * n + y) (inside hx hy)
-
--- the cells of the second part are cells of the whole
-pub part_reach : (a : ℕ) (t : List ℤ) → InReach (a + a) t → InReach a (drop a t)
-part_reach a t r i h = rw (get_or-drop a t i (pos zero)) (r (a + i) (omega arith))
 
 -- the strict table's part holds the table
 pub widened_sound : {n : ℕ} (table : List ℤ) {u : List ℤ} → length u ≡ n * n → SameCells (length u) u table → AllWithin version1 n table → Sound adding n u
@@ -47,6 +42,6 @@ begun_of {n} {table = table} u strict weak l e es ew h =
       cells = u;
       room = omega (arith, l);
       same = same_table n u table (rw l at e);
-      strict_is = first_part weak h k ∙ es;
-      open_is = second_part strict h k ∙ ew;
+      strict_is = ap (take (n * n)) h ∙ take_at strict weak (n * n) k ∙ es;
+      open_is = ap (drop (n * n)) h ∙ drop_at strict weak (n * n) k ∙ ew;
     }

@@ -1,5 +1,4 @@
--- Laws that the walks through the scratch cite.
-pub mod ScratchParts
+-- Laws of the sweeps in the scratch: their start, their turns and their end.
 pub mod AddSweeps
 pub mod AddBegins
 pub mod AddEnds

@@ -6,7 +6,7 @@ ghost use Rattle.scratch.specs.Copies.{SameCells, Narrowed, InReach, OutOfReach}
 
 use cell::{in_narrow_reach, narrowed, widened};
 
-// The first cells of a 32-bit table into all of a list.
+// The first cells of a 32-bit table into all of a list. By index, since nothing is known of what a zip writes.
 pub fn widen(table: &[i32], t: &mut [i64])
     requires { length t.old ≤ length table.now }
     ensures { SameCells (length t.old) t.new table.now }
@@ -31,8 +31,8 @@ pub fn all_in_reach(t: &[i64], count: usize) -> bool
     requires { count ≤ length t.now }
     ensures { Looked result (InReach count t.now) (OutOfReach count t.now) }
 {
-    for i in 0..count {
-        if !in_narrow_reach(t[i]) {
+    for c in &t[..count] {
+        if !in_narrow_reach(*c) {
             return false;
         }
     }

@@ -7,7 +7,6 @@ mod ending;
 mod opening;
 mod settling;
 mod starting;
-mod sweeps;
 
 pub use copies::{all_in_reach, clear};
 pub use ending::finish;

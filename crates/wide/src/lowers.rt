@@ -19,7 +19,11 @@ fn lower_pair(t: &mut Table<'_, i64>, a: Link, b: Link)
 {
     if b.con != a.con {
         let c = t.get(a.con as usize, b.con as usize);
-        t.lower_cell(a.act as usize, b.con as usize, c.lower(a.short, b.long - b.short));
+        t.lower_cell(
+            a.act as usize,
+            b.con as usize,
+            c.lower(a.short, b.long - b.short),
+        );
     }
 }
 

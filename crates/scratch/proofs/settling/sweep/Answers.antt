@@ -1,6 +1,6 @@
 -- The strict table, then the open one under it, then its own part. Assumes nothing.
 use Rattle.lowering.specs.Sweep.{sweep_open}
-use Rattle.scratch.proofs.sweeps.sweep.Goals as goal
+use Rattle.scratch.proofs.settling.sweep.Goals as goal
 
 pub returns-clause-weak : goal.returns-clause-weak
 unfolding sweep_open

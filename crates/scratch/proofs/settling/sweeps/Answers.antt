@@ -2,8 +2,8 @@
 use mathlib.Core.Logic.{inl, inr}
 use Rattle.lowering.proofs.Common.{arith, ◌≤◌}
 use Rattle.scratch.proofs.AddSweeps.{sweeping_none, sweeping_more, sweeping_falls, settled_no, settled_yes}
-use Rattle.scratch.proofs.sweeps.sweeps.Goals as goal
-use Rattle.scratch.proofs.sweeps.sweeps.Goals.{then-not-fair-via-then-not-fair, then-not-fair-via-else-not-fair+then-not-fair-2}
+use Rattle.scratch.proofs.settling.sweeps.Goals as goal
+use Rattle.scratch.proofs.settling.sweeps.Goals.{then-not-fair-via-then-not-fair, then-not-fair-via-else-not-fair+then-not-fair-2}
 
 pub loop-first-init : goal.loop-first-init
 loop-first-init c = sweeping_none c.requires.0 c.requires.1 c.read.ensures c.read-2.ensures c.both_heights-last.ensures
@@ -12,7 +12,7 @@ pub returns-then-not-fair-clause-settled : goal.returns-then-not-fair-clause-set
 returns-then-not-fair-clause-settled c =
     let no = settled_no c.loop-first.invariant c.sweep.ensures.strict c.sweep.ensures.weak c.read-first.ensures c.read-second.ensures in
     elim c.then-not-fair.branch [
-      then-not-fair-via-then-not-fair w ↦ no (inl (c.fair.ensures.fails w.if-not-fair.true))
+      | then-not-fair-via-then-not-fair w ↦ no (inl (c.fair.ensures.fails w.if-not-fair.true))
       | then-not-fair-via-else-not-fair+then-not-fair-2 w ↦ no (inr (w.fair-else-not-fair.ensures.fails w.if-not-fair-2.true))
     ]
 

@@ -1,6 +1,6 @@
 -- Two tables of at most 4,096 cells each stand far below the largest u64. Assumes nothing.
 use Rattle.lowering.proofs.Common.{◌*◌, arith, square_le, adding, sound_held, heights_most}
-use Rattle.scratch.proofs.sweeps.both_heights.Goals as goal
+use Rattle.scratch.proofs.settling.both_heights.Goals as goal
 
 pub overflow_add-result : goal.overflow_add-result
 unfolding adding
