@@ -1,5 +1,5 @@
 -- A row that the edge shortens is taken by the way over it, and any other stays. Assumes nothing.
-use Rattle.lowering.proofs.Common.{back, cell32, read_stored, version1}
+use Rattle.lowering.proofs.Common.{rules, back, cell32, read_stored, version1}
 use Rattle.lowering.proofs.Laws.SpreadAsRead.{way_summed, spread_row_is, spread_row_stays}
 use Rattle.joining.proofs.Taking.{takes_none}
 use Rattle.spreads.proofs.Passing.{passed, taken}
@@ -16,7 +16,8 @@ row_by-requires c =
     let t = c.args.t.now in
     let way = rw (passed c.get.result c.get.type_inv, back c.ranges.w) at c.add-way.ensures in
     let old = read_stored version1 t.n c.args.x c.args.a t.cells.now c.get.result t.sound c.requires.0 c.requires.1 c.get.ensures in
-    (c.requires.0, c.requires.2, rw (passed c.add-way.result c.add-way.type_inv) (way_summed version1.reach (cell32 c.get.result) (cell32 c.args.w) way old c.requires.3))
+    let sum = way_summed version1.reach (cell32 c.get.result) (cell32 c.args.w) way old c.requires.3 in
+    (search rules, search rules, rw (passed c.add-way.result c.add-way.type_inv) sum)
 
 pub returns-then-below : goal.returns-then-below
 returns-then-below c =

@@ -1,15 +1,13 @@
 -- An edge of what Upper yields. Assumes nothing.
-use Rattle.lowering.proofs.Common.{arith, refl, link_of, read_stored, version1}
+use Rattle.lowering.proofs.Common.{rules, arith, refl, link_of, read_stored, version1}
 use Rattle.lowering.proofs.Laws.LinksAsRead.{upper_edge_is}
 use Rattle.spreads.proofs.Passing.{passed, taken}
 use Rattle.spreads.proofs.uppers.upper_edge.Goals as goal
 
 pub upper-requires : goal.upper-requires
 upper-requires c =
-    let t = c.args.t.now in
     let a = c.requires.1 in
-    let read = read_stored version1 t.n c.args.x c.args.a.con t.cells.now c.get-c.result t.sound c.requires.0 a.con c.get-c.ensures in
-    (rw (passed c.get-c.result c.get-c.type_inv) read, omega (arith, a.order, a.most), a.most)
+    (rw (passed c.get-c.result c.get-c.type_inv) (search (read_stored, rules)), omega (arith, a.order, a.most), a.most)
 
 pub returns : goal.returns
 returns c =
