@@ -1,20 +1,25 @@
 -- The parts of the closed test together are the paper's sentence: for a sound file and tables of its n points, every part holds exactly where
 -- the tables are closed. Assumes nothing.
-use mathlib.Core.Path.{sym, subst}
+use mathlib.Core.Path.{◌≡◌, sym, subst}
+use mathlib.Core.Bool.{Bool, true, false}
 use mathlib.Core.List.{List, Memᴰ}
 use Prim.Native.Nat.{ℕ, ◌*◌, ◌≤◌, ◌<◌}
 use lib.ListN.{length}
 use lib.IntN.{ℤ}
-use Rattle.rules.specs.Plan.{Limit, Link, version1}
+use Rattle.rules.specs.Plan.{Limit, Link, version1, LimitInRange, LinkInRange}
 use Rattle.rules.specs.Edges as edges
 use Rattle.rules.specs.Edges.{Given}
 use Rattle.rules.specs.Cells.{num, ◌≤ᶜ◌, Table, table_of}
 use Rattle.rules.specs.Tables.{Closed}
 use Rattle.plan.specs.Layout.{limit_at, link_at, plan_of}
+use Rattle.cell.specs.Steps.{Decides}
+use Rattle.cell.proofs.CellMethods.{decided_no}
 use Rattle.cell.proofs.StoredCells.{within_stored}
 use Rattle.lowering.specs.Table.{Sound, Ready}
 use Rattle.lowering.proofs.Theory.StillSweep.{AllLinks}
 use Rattle.lowering.proofs.Theory.FirstTables.{AllLimits}
+use Rattle.lowering.proofs.Laws.FirstAsRead.{limit_read}
+use Rattle.lowering.proofs.Laws.LinksAsRead.{link_read}
 use Rattle.lowering.proofs.Laws.ReadyFile.{ready_points, ready_limit, ready_link, ready_limits, ready_links}
 use Rattle.closed.specs.Parts.{AllWithin, Alone, LimitHeld, LinkHeld, PairLowered, LinkLowered, LinkUppered, CaseHeld, StrictHeld, OpenHeld}
 
@@ -25,6 +30,13 @@ sound_by {n} {t} h w =
       room = h;
       stored = λ x y hx hy. within_stored version1.reach (table_of version1 n t x y) (w x hx y hy);
     }
+
+-- a limit and a link that were read are in the range of a table of as many points
+pub limit_there : {s : List ℕ} {n m k i w : ℕ} {l : Limit} → l ≡ limit_at s i → i < m → w ≡ n → Ready s n m k → LimitInRange version1 w l
+limit_there {i = i} el h e r = rw e (limit_read r i h el)
+
+pub link_there : {s : List ℕ} {n m k i w : ℕ} {l : Link} → l ≡ link_at s m i → i < k → w ≡ n → Ready s n m k → LinkInRange version1 w l
+link_there {i = i} el h e r = rw e (link_read r i h el)
 
 module _ {s : List ℕ} {n m k : ℕ} (r : Ready s n m k) where
   -- points below n are the plan's
@@ -114,3 +126,25 @@ module _ {s : List ℕ} {n m k : ℕ} (r : Ready s n m k) where
             under = λ x hx y hy. c.open_strict x y (back hx) (back hy);
             cases = λ i h. c.open_lower_case (link_at s m i) (ready_link s n m k r i h);
           }
+
+  -- ---- the tests of both tables, as they are read
+
+  module _ (a b : List ℤ) {w : ℕ} {c : List ℤ} (one : Alone version1.reach n (table_of version1 n a) × (w ≡ n) × (c ≡ a)) {f : Bool}
+      (held : Decides f (StrictHeld w (limit_at s) m (link_at s m) k (table_of version1 w c))) where
+    strict_test : Decides f (StrictHeld n (limit_at s) m (link_at s m) k (table_of version1 n a))
+    strict_test = rw (one.1, one.2) at held
+
+    -- the strict one failed
+    pub not_closed : f ≡ false → Decides f (Closed version1 (plan_of s) (table_of version1 n a) (table_of version1 n b))
+    not_closed e = rw e (decided_no (λ h. strict_test.fails e (strict_held h)))
+
+    -- it did not
+    pub closed_where : f ≡ true → {v : ℕ} {d : List ℤ} → Alone version1.reach n (table_of version1 n b) × (v ≡ n) × (d ≡ b) → {g : Bool}
+        → Decides g (OpenHeld w (link_at s m) k (table_of version1 w c) (table_of version1 v d))
+        → Decides g (Closed version1 (plan_of s) (table_of version1 n a) (table_of version1 n b))
+    closed_where e two {g} under =
+        let u : Decides g (OpenHeld n (link_at s m) k (table_of version1 n a) (table_of version1 n b)) = rw (one.1, one.2, two.1, two.2) at under in
+        record {
+          holds = λ y. closed_by one.0 two.0 (strict_test.holds e) (u.holds y);
+          fails = λ y h. u.fails y (open_held h);
+        }

@@ -1,5 +1,4 @@
 -- Laws of tests: what decides a bound, and the whole sentence.
 pub mod CellTests
-pub mod EdgeTests
 pub mod ClosedWhole
 pub mod Common

@@ -1,26 +1,22 @@
-// One cell against what it may not exceed.
-ghost use Rattle.std.specs.Prelude.{◌*◌, ◌≤◌, ◌<◌, length};
-ghost use Rattle.rules.specs.Plan.{version1};
-ghost use Rattle.rules.specs.Cells.{◌≤ᶜ◌, table_of};
-ghost use Rattle.cell.specs.Steps.{cell32, Decides};
+// One cell against what it may not exceed, at either width.
+ghost use Rattle.std.specs.Prelude.{◌<◌};
+ghost use Rattle.rules.specs.Cells.{◌≤ᶜ◌, cell_of, table_of};
+ghost use Rattle.cell.specs.Steps.{Decides};
 
-use cell::Cell32;
-use joining::get;
+use cell::Word;
+use joining::View;
 
 // Whether a cell does not exceed another, with the mark above every number.
-pub fn under(a: Cell32, b: Cell32) -> bool
-    ensures { Decides result (cell32 a.v ≤ᶜ cell32 b.v) }
+pub fn under<W: Word>(a: W, b: W) -> bool
+    ensures { Decides result (cell_of W.ranges.mark (W.value a) ≤ᶜ cell_of W.ranges.mark (W.value b)) }
 {
-    if b.below(a) {
-        return false;
-    }
-    true
+    !b.below(a)
 }
 
 // Whether the cell x to y of a table does not exceed c.
-pub fn at_most(t: &[i32], n: usize, x: usize, y: usize, c: Cell32) -> bool
-    requires { (x < n) × (y < n) × (n * n ≤ length t.now) × (n ≤ 64) }
-    ensures { Decides result (table_of version1 n t.now x y ≤ᶜ cell32 c.v) }
+pub fn at_most<W: Word>(t: View<'_, W>, x: usize, y: usize, c: W) -> bool
+    requires { (x < t.n) × (y < t.n) }
+    ensures { Decides result (table_of W.ranges t.entry.n (W.values t.entry.cells.now) x y ≤ᶜ cell_of W.ranges.mark (W.value c)) }
 {
-    under(get(t, n, x, y), c)
+    under(t.get(x, y), c)
 }

@@ -1,8 +1,8 @@
 // The closed test: whether two lent tables are closed for the plan of a sound file, exactly. Each file below holds one part of the
 // paper's sentence "Tables are closed for a plan if ..", as small functions with one loop each; what each decides is said by
 // specs/Parts.antt. They stop at the first violation, save that a row of sums along a middle point is looked at to its end
-// (joins.rt says why). The ranges come first, so that later no sum leaves its type.
-#![tactic(auto)]
+// (joins.rt says why). The ranges come first: a table whose cells are in range is handed on as a `View`, in which no sum leaves its type.
+#![tactic(auto, using(crate::proofs::ClosedWhole::link_there, crate::proofs::CellTests::stored_here))]
 
 mod bounds;
 mod given;
@@ -12,80 +12,65 @@ mod open_table;
 mod upper;
 mod within;
 
-ghost use Rattle.std.specs.Prelude.{◌*◌, ◌≤◌, length};
+ghost use Rattle.std.specs.Prelude.{◌≡◌, ◌*◌, ◌≤◌, length, MatchOption};
 ghost use Rattle.rules.specs.Plan.{version1};
 ghost use Rattle.rules.specs.Cells.{table_of};
 ghost use Rattle.rules.specs.Tables.{Closed};
 ghost use Rattle.plan.specs.Layout.{limit_at, link_at, plan_of};
 ghost use Rattle.cell.specs.Steps.{Decides};
-ghost use Rattle.lowering.specs.Table.{Sound, Ready};
 ghost use Rattle.closed.specs.Parts.{Alone, StrictHeld, OpenHeld};
 
 use given::{limits_held, links_held, starts_held};
+use joining::View;
 use joins::all_joined;
 use lower::all_lowered;
 use open_table::{all_under, cases_held};
+use reader::SoundPlan;
 use upper::all_uppered;
-use within::{all_within, diagonal};
+use within::{diagonal, within};
 
-// A table by itself: its cells in range, its diagonal 0, no cell above a sum along a middle point.
-fn alone(t: &[i32], n: usize) -> bool
-    requires { (n * n ≤ length t.now) × (n ≤ 64) }
-    ensures { Decides result (Alone version1.reach n (table_of version1 n t.now)) }
+// A table by itself, to read where its cells are in range, its diagonal is 0 and no cell is above a sum along a middle point.
+fn alone(cells: &[i32], n: usize) -> Option<View<'_, i32>>
+    requires { (n * n ≤ length cells.now) × (n ≤ 64) }
+    ensures { MatchOption result (Alone version1.reach n (table_of version1 n cells.now) → ⊥) (λ t. Alone version1.reach n (table_of version1 n cells.now) × (t.n ≡ n) × (t.cells.now ≡ cells.now)) }
 {
-    if !all_within(t, n) {
-        return false;
+    let t = within(cells, n)?;
+    if !(diagonal(t) && all_joined(t)) {
+        return None;
     }
-    if !diagonal(t, n) {
-        return false;
-    }
-    all_joined(t, n)
+    Some(t)
 }
 
 // The strict table against the given edges, Lower and Upper.
-fn strict_held(file: &[u8], n: usize, m: u32, k: u32, t: &[i32]) -> bool
-    requires { Ready file.now n m k × Sound version1 n t.now }
-    ensures { Decides result (StrictHeld n (limit_at file.now) m (link_at file.now m) k (table_of version1 n t.now)) }
+fn strict_held(plan: SoundPlan<'_>, t: View<'_, i32>) -> bool
+    requires { t.n ≡ plan.n }
+    ensures { Decides result (StrictHeld t.entry.n (limit_at plan.entry.file.now) plan.entry.m (link_at plan.entry.file.now plan.entry.m) plan.entry.k (table_of version1 t.entry.n t.entry.cells.now)) }
 {
-    if !limits_held(file, n, m, k, t) {
-        return false;
-    }
-    if !starts_held(t, n) {
-        return false;
-    }
-    if !links_held(file, n, m, k, t) {
-        return false;
-    }
-    if !all_lowered(file, n, m, k, t) {
-        return false;
-    }
-    all_uppered(file, n, m, k, t)
+    limits_held(plan, t)
+        && starts_held(t)
+        && links_held(plan, t)
+        && all_lowered(plan, t)
+        && all_uppered(plan, t)
 }
 
 // The open table against the strict one and the lower-case edges.
-fn open_held(file: &[u8], n: usize, m: u32, k: u32, strict: &[i32], open: &[i32]) -> bool
-    requires { Ready file.now n m k × (n * n ≤ length strict.now) × (n * n ≤ length «open».now) }
-    ensures { Decides result (OpenHeld n (link_at file.now m) k (table_of version1 n strict.now) (table_of version1 n «open».now)) }
+fn open_held(plan: SoundPlan<'_>, strict: View<'_, i32>, open: View<'_, i32>) -> bool
+    requires { (strict.n ≡ plan.n) × («open».n ≡ plan.n) }
+    ensures { Decides result (OpenHeld strict.entry.n (link_at plan.entry.file.now plan.entry.m) plan.entry.k (table_of version1 strict.entry.n strict.entry.cells.now) (table_of version1 «open».entry.n «open».entry.cells.now)) }
 {
-    if !all_under(strict, open, n) {
-        return false;
-    }
-    cases_held(file, n, m, k, open)
+    all_under(strict, open) && cases_held(plan, open)
 }
 
-// Whether two tables of n x n cells are closed for the plan of a sound file of n points, m limits and k links.
-pub fn closed(file: &[u8], n: usize, m: u32, k: u32, strict: &[i32], open: &[i32]) -> bool
-    requires { Ready file.now n m k × (n * n ≤ length strict.now) × (n * n ≤ length «open».now) }
-    ensures { Decides result (Closed version1 (plan_of file.now) (table_of version1 n strict.now) (table_of version1 n «open».now)) }
+// Whether two tables of n x n cells are closed for a plan of n points.
+pub fn closed(plan: SoundPlan<'_>, strict: &[i32], open: &[i32]) -> bool
+    requires { (plan.n * plan.n ≤ length strict.now) × (plan.n * plan.n ≤ length «open».now) }
+    ensures { Decides result (Closed version1 (plan_of plan.entry.file.now) (table_of version1 plan.entry.n strict.now) (table_of version1 plan.entry.n «open».now)) }
 {
-    if !alone(strict, n) {
+    let Some(strict) = alone(strict, plan.n) else {
         return false;
-    }
-    if !alone(open, n) {
+    };
+    let Some(open) = alone(open, plan.n) else {
         return false;
-    }
-    if !strict_held(file, n, m, k, strict) {
-        return false;
-    }
-    open_held(file, n, m, k, strict, open)
+    };
+    strict_held(plan, strict) && open_held(plan, strict, open)
 }

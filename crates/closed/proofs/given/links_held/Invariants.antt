@@ -1,0 +1,7 @@
+-- `given::links_held`: every link passed holds. Assumes nothing.
+use Rattle.closed.proofs.Common.{link_at, table_of, version1}
+use Rattle.closed.specs.Parts.{LinksHeld}
+use Rattle.closed.proofs.given.links_held.Given as goal
+
+abbrev pub invariant-loop-i : goal.invariant-loop-i
+invariant-loop-i l = LinksHeld (link_at l.plan.file.now l.plan.m) l.i (table_of version1 l.t.n l.t.cells.now)
