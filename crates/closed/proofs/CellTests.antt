@@ -1,6 +1,6 @@
 -- Tests of one cell against what it may not exceed. A number of 32 bits that was passed to a call is read back from its bits there. Assumes nothing.
 use mathlib.Core.Path.{◌≡◌, sym, subst, ap, refl, ◌∙◌}
-use mathlib.Core.Bool.{Bool, true, false, ◌&&◌, true≢false}
+use mathlib.Core.Bool.{Bool, true, false, ◌&&◌}
 use mathlib.Core.List.{List}
 use Prim.Native.Nat.{ℕ, zero, ◌+◌, ◌*◌, ◌-◌, ◌^◌, ◌≤◌, ◌<◌}
 use native.Mathlib.Omega.{arith}

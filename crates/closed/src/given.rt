@@ -1,7 +1,7 @@
 // The strict table against the given edges: the limits, the start edges, both ordinary edges of each link.
-ghost use Rattle.std.specs.Prelude.{◌≡◌, ◌<◌, pos};
+ghost use Rattle.std.specs.Prelude.{◌≡◌};
 ghost use Rattle.rules.specs.Plan.{version1, LimitInRange, LinkInRange};
-ghost use Rattle.rules.specs.Cells.{num, ◌≤ᶜ◌, table_of};
+ghost use Rattle.rules.specs.Cells.{table_of};
 ghost use Rattle.plan.specs.Layout.{limit_at, link_at};
 ghost use Rattle.plan.specs.Values.{limit_of, link_of};
 ghost use Rattle.cell.specs.Steps.{Decides};

@@ -1,7 +1,7 @@
 // The closed test: whether two lent tables are closed for the plan of a sound file, exactly. Each file below holds one part of the
 // paper's sentence "Tables are closed for a plan if ..", as small functions with one loop each; what each decides is said by
 // specs/Parts.antt. They stop at the first violation, save that a row of sums along a middle point is looked at to its end
-// (joins.rt says why). The ranges come first, so that later no sum leaves its type.
+// (joins.rt says why). The ranges come first: a table whose cells are in range is handed on as a `View`, in which no sum leaves its type.
 #![tactic(auto, using(crate::proofs::ClosedWhole::link_there, crate::proofs::CellTests::stored_here))]
 
 mod bounds;
@@ -46,7 +46,11 @@ fn strict_held(plan: SoundPlan<'_>, t: View<'_, i32>) -> bool
     requires { t.n ≡ plan.n }
     ensures { Decides result (StrictHeld t.entry.n (limit_at plan.entry.file.now) plan.entry.m (link_at plan.entry.file.now plan.entry.m) plan.entry.k (table_of version1 t.entry.n t.entry.cells.now)) }
 {
-    limits_held(plan, t) && starts_held(t) && links_held(plan, t) && all_lowered(plan, t) && all_uppered(plan, t)
+    limits_held(plan, t)
+        && starts_held(t)
+        && links_held(plan, t)
+        && all_lowered(plan, t)
+        && all_uppered(plan, t)
 }
 
 // The open table against the strict one and the lower-case edges.

@@ -23,7 +23,8 @@ fn pair_lowered(t: View<'_, i32>, link: Link, other: Link) -> bool
     }
     let to = other.con as usize;
     let c = t.get(link.con as usize, to);
-    at_most(t, link.act as usize, to, c.lower(link.short, other.long - other.short))
+    let edge = c.lower(link.short, other.long - other.short);
+    at_most(t, link.act as usize, to, edge)
 }
 
 // A link and every other one.

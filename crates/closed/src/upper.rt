@@ -19,7 +19,8 @@ fn point_uppered(t: View<'_, i32>, link: Link, x: usize) -> bool
     ensures { Decides result (PointUppered (table_of version1 t.entry.n t.entry.cells.now) (link_of link) x) }
 {
     let c = t.get(x, link.con as usize);
-    at_most(t, x, link.act as usize, c.upper(link.short, link.long))
+    let edge = c.upper(link.short, link.long);
+    at_most(t, x, link.act as usize, edge)
 }
 
 // A link and every point.

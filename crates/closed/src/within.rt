@@ -7,7 +7,7 @@ ghost use Rattle.closed.specs.Parts.{RowWithin, AllWithin, Diagonal};
 
 use crate::bounds::under;
 use cell::Word;
-use joining::{get, View};
+use joining::{View, get};
 
 // Whether every cell of row x is in range.
 fn row_within(cells: &[i32], n: usize, x: usize) -> bool
