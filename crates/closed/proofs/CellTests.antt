@@ -10,12 +10,11 @@ use lib.Signed.{mag}
 use mir.Syntax.{w32}
 use mir.Val.{to_z, of_z, hbits}
 use borrow.Author.Count.{below_more}
-use Rattle.whole.proofs.Bits.{back, fit}
 use Rattle.rules.specs.Plan.{Link, version1, LinkInRange}
 use Rattle.rules.specs.Edges.{spread}
 use Rattle.rules.specs.Cells.{Cell, mark, num, ◌+ᶜ◌, ◌≤ᶜ◌, lowered, uppered, table_of}
 use Rattle.cell.specs.Steps.{cell32, Stored, Decides}
-use Rattle.cell.proofs.CellMethods.{room32, decided_yes, decided_no, minus_is}
+use Rattle.cell.proofs.CellMethods.{room32, decided_yes, decided_no, minus_is, passed}
 use Rattle.cell.proofs.StoredCells.{≤ᶜ_refl, ≤ᶜ_antisym, ≤ᶜ_mark, spread_is}
 use Rattle.lowering.specs.Table.{Sound}
 use Rattle.lowering.proofs.Laws.FirstAsRead.{span_cell}
@@ -54,7 +53,7 @@ module _ (a : Cell) (v : ℤ) {b : Bool} (d : Decides b (a ≤ᶜ num v)) where
 -- ---- a cell as a call has it
 
 pub here : (v : ℤ) → mag v < 2 ^ hbits w32 → cell32 (to_z w32 (of_z w32 v)) ≡ cell32 v
-here v h = ap cell32 (back (fit w32 v h))
+here v h = ap cell32 (passed w32 h)
 
 -- as it was read
 pub read_here : {v : ℤ} → mag v < 2 ^ hbits w32 → (n x y : ℕ) (t : List ℤ) → v ≡ get_or t (x * n + y) (pos zero)
@@ -72,7 +71,7 @@ span_here {v} h e k = here v h ∙ span_cell k e
 -- and its negation
 pub minus_here : {u v : ℤ} {k : ℕ} → mag u < 2 ^ hbits w32 → u ≡ pos k → mag v < 2 ^ hbits w32 → v ≡ neg_ℤ (to_z w32 (of_z w32 u)) → k ≤ version1.weight
     → cell32 (to_z w32 (of_z w32 v)) ≡ num (neg_ℤ (pos k))
-minus_here {u} {v} hu eu hv ev k = here v hv ∙ minus_is room32 k (ev ∙ (ap neg_ℤ (back (fit w32 u hu)) ∙ ap neg_ℤ eu))
+minus_here {u} {v} hu eu hv ev k = here v hv ∙ minus_is room32 k (ev ∙ (ap neg_ℤ (passed w32 hu) ∙ ap neg_ℤ eu))
 
 -- ---- Join
 
