@@ -1,6 +1,7 @@
 -- What the walks through limits and links cite: a limit and a link as they were read, what Lower and Upper offer from cells as they were read. Assumes nothing.
 use mathlib.Core.Path.{◌≡◌, refl, sym, ap, ◌∙◌}
 use mathlib.Core.Bool.{Bool, true, false, cond, true≢false}
+use Rattle.std.specs.Prelude.{Some, None}
 use mathlib.Core.List.{List}
 use Prim.Native.Nat.{ℕ, ◌≤◌, ◌<◌}
 use native.Mathlib.Omega.{arith}
@@ -28,8 +29,9 @@ use Rattle.chain.specs.Lines.{Line, by_lower, limit_line, Best, none, still, mad
 use Rattle.chain.specs.Reasons.{nothing, line, link_offer, lower_from, lower_offer, upper_from, upper_offer}
 use Rattle.chain.proofs.BestLines.{still_same}
 use Rattle.offers.specs.declared.Draft.{Draft}
+use Rattle.offers.specs.declared.kinds.Kind.TheVariants.{Lower, Upper}
 use Rattle.offers.specs.Work.{spot_of, Standing}
-use Rattle.offers.specs.Drafts.{offer_of, Offers}
+use Rattle.offers.specs.Drafts.{made_of, Offers}
 use Rattle.offers.proofs.OfferLaws.{weight_read}
 
 -- ---- as read
@@ -69,28 +71,28 @@ pub limit_made : (i : ℕ) (l a : Limit) (v : ℤ) → l ≡ a → v ≡ l.weigh
     → record { kind = 2; from = l.from; to = l.to; weight = v; first = i; second = 0 } ≡ limit_line i a
 limit_made i l a v e q = rw (q, e)
 
-module _ (i : ℕ) (k a : Link) (c : ℕ) (v : ℤ) (e : k ≡ a) where
-  pub longest_made : c ≡ 0 → v ≡ pos k.long → (ls : List Line)
-      → link_offer i a c ls ≡ line (record { kind = 3; from = k.act; to = k.con; weight = v; first = i; second = 0 })
+module _ (i : ℕ) (k a : Link) (v : ℤ) (e : k ≡ a) where
+  pub longest_made : v ≡ pos k.long → (ls : List Line)
+      → link_offer i a 0 ls ≡ line (record { kind = 3; from = k.act; to = k.con; weight = v; first = i; second = 0 })
   unfolding link_offer
-  longest_made h q ls = rw (h, q, e)
+  longest_made q ls = rw (q, e)
 
-  pub shortest_made : c ≡ 1 → v ≡ neg_ℤ (pos k.short) → (ls : List Line)
-      → link_offer i a c ls ≡ line (record { kind = 4; from = k.con; to = k.act; weight = v; first = i; second = 0 })
+  pub shortest_made : v ≡ neg_ℤ (pos k.short) → (ls : List Line)
+      → link_offer i a 1 ls ≡ line (record { kind = 4; from = k.con; to = k.act; weight = v; first = i; second = 0 })
   unfolding link_offer
-  shortest_made h q ls = rw (h, q, e)
+  shortest_made q ls = rw (q, e)
 
-  pub lower_case_made : c ≡ 2 → v ≡ pos k.short → (ls : List Line)
-      → link_offer i a c ls ≡ line (record { kind = 5; from = k.act; to = k.con; weight = v; first = i; second = 0 })
+  pub lower_case_made : v ≡ pos k.short → (ls : List Line)
+      → link_offer i a 2 ls ≡ line (record { kind = 5; from = k.act; to = k.con; weight = v; first = i; second = 0 })
   unfolding link_offer
-  lower_case_made h q ls = rw (h, q, e)
+  lower_case_made q ls = rw (q, e)
 
 -- ---- Lower
 
 module _ (n : ℕ) (work : List ℤ) (c : ℕ) (a b : Link) where
-  pub lower_own : (d : Draft) → b.con ≡ a.con → d.kind ≡ 0 → Offers n work (lower_offer c a b) d
+  pub lower_own : b.con ≡ a.con → Offers n work (lower_offer c a b) None
   unfolding lower_offer
-  lower_own d e z ls t = rw (eq-eqb b.con a.con e, z)
+  lower_own e ls t = rw (eq-eqb b.con a.con e)
 
   module _ (ne : b.con ≡ a.con → ⊥) (ha : a.con < n) (hb : b.con < n) (v w : ℤ) (ev : v ≡ get_or work (spot_of n 0 a.con b.con) (pos 0))
       (ew : cell64 w ≡ lowered a b (cell64 v)) where
@@ -98,9 +100,9 @@ module _ (n : ℕ) (work : List ℤ) (c : ℕ) (a b : Link) where
     yields : (ls : List Line) → Standing n ls work → cell64 w ≡ lowered a b (cells Strict ls a.con b.con)
     yields ls t = ew ∙ ap (lowered a b) (ap cell64 ev ∙ weight_read t Strict a.con b.con ha hb)
 
-    pub lower_none : (d : Draft) → cell64 w ≡ mark → d.kind ≡ 0 → Offers n work (lower_offer c a b) d
+    pub lower_none : cell64 w ≡ mark → Offers n work (lower_offer c a b) None
     unfolding lower_offer
-    lower_none d m z ls t = rw (ne_eqb b.con a.con ne, z) (by (best Strict a.con b.con ls) (sym m ∙ yields ls t))
+    lower_none m ls t = rw (ne_eqb b.con a.con ne) (by (best Strict a.con b.con ls) (sym m ∙ yields ls t))
       where
         by : (q : Best) → mark ≡ lowered a b (weight_of q) → lower_from c a b q ≡ nothing
         by none e = refl
@@ -112,51 +114,51 @@ module _ (n : ℕ) (work : List ℤ) (c : ℕ) (a b : Link) where
             at true e = absurd (true≢false (ap is_mark e))
             at false e = refl
 
-    pub lower_some : (d : Draft) → cell64 w ≡ num w → d.weight ≡ w → d.kind ≡ 7 → d.from ≡ a.act → d.to ≡ b.con → d.first ≡ c
-        → ((u : ℕ) → get_or work (spot_of n 1 a.con b.con) (pos 0) ≡ pos u → d.second ≡ u) → Offers n work (lower_offer c a b) d
+    pub lower_some : (d : Draft) → cell64 w ≡ num w → d.weight ≡ w → d.kind ≡ Lower → d.from ≡ a.act → d.to ≡ b.con → d.first ≡ c
+        → ((u : ℕ) → get_or work (spot_of n 1 a.con b.con) (pos 0) ≡ pos u → d.second ≡ u) → Offers n work (lower_offer c a b) (Some d)
     unfolding lower_offer
     lower_some d m dw k f o g l ls t =
         rw (ne_eqb b.con a.con ne)
         (by (best Strict a.con b.con ls) refl (sym m ∙ yields ls t) (l (line_of (best Strict a.con b.con ls)) (t.holds.line Strict a.con b.con ha hb)))
       where
-        by : (q : Best) → best Strict a.con b.con ls ≡ q → num w ≡ lowered a b (weight_of q) → d.second ≡ line_of q → lower_from c a b q ≡ offer_of d
+        by : (q : Best) → best Strict a.con b.con ls ≡ q → num w ≡ lowered a b (weight_of q) → d.second ≡ line_of q → lower_from c a b q ≡ line (made_of d)
         by none h e u = absurd (true≢false (sym (ap is_mark e)))
         by still h e u = absurd (ne (sym (still_same Strict a.con b.con ls h)))
         by (made i x) h e u = at (lt_z x (spread b)) e
           where
             at : (f : Bool) → num w ≡ cond f (num (pos a.short +ℤ x)) mark
-                → cond f (line (record { kind = by_lower; from = a.act; to = b.con; weight = pos a.short +ℤ x; first = c; second = i })) nothing ≡ offer_of d
+                → cond f (line (record { kind = by_lower; from = a.act; to = b.con; weight = pos a.short +ℤ x; first = c; second = i })) nothing ≡ line (made_of d)
             at true e = rw (k, f, o, g, u, dw, same_number e)
             at false e = absurd (true≢false (sym (ap is_mark e)))
 
 -- ---- Upper
 
 module _ (n : ℕ) (work : List ℤ) (c x : ℕ) (a : Link) where
-  pub upper_own : (d : Draft) → x ≡ a.con → d.kind ≡ 0 → Offers n work (upper_offer c x a) d
+  pub upper_own : x ≡ a.con → Offers n work (upper_offer c x a) None
   unfolding upper_offer
-  upper_own d e z ls t = rw (z, e, t.diagonal a.con)
+  upper_own e ls t = rw (e, t.diagonal a.con)
 
   module _ (ne : x ≡ a.con → ⊥) (hx : x < n) (ha : a.con < n) (v w : ℤ) (ev : v ≡ get_or work (spot_of n 0 x a.con) (pos 0))
       (ew : cell64 w ≡ uppered a (cell64 v)) where
     upper_yields : (ls : List Line) → Standing n ls work → cell64 w ≡ uppered a (cells Strict ls x a.con)
     upper_yields ls t = ew ∙ ap (uppered a) (ap cell64 ev ∙ weight_read t Strict x a.con hx ha)
 
-    pub upper_none : (d : Draft) → cell64 w ≡ mark → d.kind ≡ 0 → Offers n work (upper_offer c x a) d
+    pub upper_none : cell64 w ≡ mark → Offers n work (upper_offer c x a) None
     unfolding upper_offer
-    upper_none d m z ls t = rw z (by (best Strict x a.con ls) (sym m ∙ upper_yields ls t))
+    upper_none m ls t = (by (best Strict x a.con ls) (sym m ∙ upper_yields ls t))
       where
         by : (q : Best) → mark ≡ uppered a (weight_of q) → upper_from c x a q ≡ nothing
         by none e = refl
         by still e = refl
         by (made i u) e = absurd (true≢false (ap is_mark e))
 
-    pub upper_some : (d : Draft) → cell64 w ≡ num w → d.weight ≡ w → d.kind ≡ 8 → d.from ≡ x → d.to ≡ a.act → d.second ≡ c
-        → ((u : ℕ) → get_or work (spot_of n 1 x a.con) (pos 0) ≡ pos u → d.first ≡ u) → Offers n work (upper_offer c x a) d
+    pub upper_some : (d : Draft) → cell64 w ≡ num w → d.weight ≡ w → d.kind ≡ Upper → d.from ≡ x → d.to ≡ a.act → d.second ≡ c
+        → ((u : ℕ) → get_or work (spot_of n 1 x a.con) (pos 0) ≡ pos u → d.first ≡ u) → Offers n work (upper_offer c x a) (Some d)
     unfolding upper_offer
     upper_some d m dw k f o g l ls t =
         by (best Strict x a.con ls) refl (sym m ∙ upper_yields ls t) (l (line_of (best Strict x a.con ls)) (t.holds.line Strict x a.con hx ha))
       where
-        by : (q : Best) → best Strict x a.con ls ≡ q → num w ≡ uppered a (weight_of q) → d.first ≡ line_of q → upper_from c x a q ≡ offer_of d
+        by : (q : Best) → best Strict x a.con ls ≡ q → num w ≡ uppered a (weight_of q) → d.first ≡ line_of q → upper_from c x a q ≡ line (made_of d)
         by none h e u = absurd (true≢false (sym (ap is_mark e)))
         by still h e u = absurd (ne (still_same Strict x a.con ls h))
         by (made i y) h e u = rw (k, f, o, g, u, dw, same_number e)

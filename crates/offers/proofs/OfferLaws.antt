@@ -3,16 +3,16 @@
 use mathlib.Core.Path.{◌≡◌, refl, sym, ap, ◌∙◌, subst}
 use mathlib.Core.Bool.{Bool, true, false, cond, ◌||◌, true≢false}
 use mathlib.Core.Logic.{⊎_elim}
+use Rattle.std.specs.Prelude.{Some, None, IfSome}
+use Rattle.std.specs.Bool.{then_some}
 use mathlib.Core.List.{List, ◌∷◌}
 use Prim.Native.Nat.{ℕ, suc, ◌+◌, ◌*◌, ◌≤◌, ◌<◌}
 use native.Mathlib.Nat.{mul-le-mul, eq-or-lt_of_le}
 use lib.Arith.{digits_lt}
 use native.Mathlib.Omega.{arith}
-use lib.Dec.{eqb}
 use lib.ListN.{length, get_or}
 use lib.IntN.{ℤ, pos, ◌+ℤ◌, +ℤ_idl, +ℤ_idr}
 use lib.Signed.{◌≤ℤ◌, ≤ℤ_refl}
-use borrow.Author.Tests.{ne_eqb}
 use Rattle.whole.proofs.Order.{ints}
 use Rattle.whole.proofs.Bits.{le_lt_z}
 use Rattle.rules.specs.declared.Side.{Side}
@@ -23,11 +23,12 @@ use Rattle.cell.proofs.CellMethods.{number_is, mark_is}
 use Rattle.rules.proofs.Cells.{same_number}
 use Rattle.cell.proofs.StoredCells.{within_stored, number_of_lem}
 use Rattle.chain.specs.Lines.{Line, Best, none, still, made, beats, best, weight_of, line_of, cells}
-use Rattle.chain.specs.Reasons.{Offer, nothing, line, always, side_of, write, try, joined}
+use Rattle.chain.specs.Reasons.{Offer, line, always, side_of, write, try, joined}
 use Rattle.chain.proofs.BestLines.{still_same}
 use Rattle.offers.specs.declared.Draft.{Draft}
+use Rattle.offers.specs.Kinds.{kind_number}
 use Rattle.offers.specs.Work.{spot_of, part_of, weight_in, Standing, Known}
-use Rattle.offers.specs.Drafts.{made_of, offer_of, Offers, Adds, Plain, Nothing, lowers_by, NoneBefore}
+use Rattle.offers.specs.Drafts.{made_of, Offers, Adds, Notable, Plain, lowers_by, NoneBefore}
 
 -- ---- where cells stand
 
@@ -172,33 +173,28 @@ lowers_read n work part y x j a b c s ea eb ec es et = rw (← ea, ← eb, ← e
 
 -- ---- what a try adds
 
+-- nothing offered adds nothing
+pub none_adds : {n : ℕ} {work : List ℤ} (offer : List Line → Offer) → Offers n work offer None → Adds n work offer None
+unfolding try write
+none_adds offer given ls t = rw (t.going, given ls t)
+
 -- an ordinary line, kept or not by the test of its weight against the strict cell
-module _ (n : ℕ) (work : List ℤ) (d : Draft) (w c : ℤ) (p : Plain n d) (ew : w ≡ d.weight) (ec : c ≡ get_or work (spot_of n 0 d.from d.to) (pos 0)) where
-  side_cell : (ls : List Line) → Standing n ls work → cells (side_of d.kind) ls d.from d.to ≡ cell64 c
+module _ (n : ℕ) (work : List ℤ) (d : Draft) (c : ℤ) (p : Plain n d) (ec : c ≡ get_or work (spot_of n 0 d.from d.to) (pos 0)) where
+  side_cell : (ls : List Line) → Standing n ls work → cells (side_of (kind_number d.kind)) ls d.from d.to ≡ cell64 c
   side_cell ls t = rw p.strict (sym (weight_read t Strict d.from d.to p.notable.from p.notable.to) ∙ ap cell64 (sym ec))
 
-  weight_cell : cell64 w ≡ num d.weight
-  weight_cell = rw ew p.notable.number
-
-  pub kept_yes : {t : Bool} → t ≡ belowᶜ (cell64 w) (cell64 c) → t ≡ true → (offer : List Line → Offer) → Offers n work offer d → Adds n work offer d
+  pub kept_adds : (t : Bool) → t ≡ belowᶜ (cell64 d.weight) (cell64 c) → (offer : List Line → Offer) → Offers n work offer (Some d) → Adds n work offer (then_some t d)
   unfolding try write
-  kept_yes e f offer given ls t =
+  kept_adds true e offer given ls t =
       rw (t.going, given ls t)
-      (by (eqb d.kind 0) (is_written (made_of d) ls (cell64 c) (side_cell ls t) (ap (λ (q : Cell). belowᶜ q (cell64 c)) (sym weight_cell) ∙ sym e ∙ f)))
-    where
-      by : (b : Bool) → write (line (made_of d)) ls ≡ made_of d ∷ ls → write (cond b nothing (line (made_of d))) ls ≡ cond b ls (made_of d ∷ ls)
-      by true h = refl
-      by false h = h
+      (is_written (made_of d) ls (cell64 c) (side_cell ls t) (ap (λ (q : Cell). belowᶜ q (cell64 c)) (sym p.notable.number) ∙ sym e))
+  kept_adds false e offer given ls t =
+      rw (t.going, given ls t)
+      (not_written (made_of d) ls (cell64 c) p.ordinary (side_cell ls t) (ap (λ (q : Cell). belowᶜ q (cell64 c)) (sym p.notable.number) ∙ sym e))
 
-  pub kept_no : {t : Bool} → t ≡ belowᶜ (cell64 w) (cell64 c) → t ≡ false → (r : Draft) → r.kind ≡ 0 → (offer : List Line → Offer) → Offers n work offer d → Adds n work offer r
-  unfolding try write
-  kept_no e f r z offer given ls t =
-      rw (t.going, given ls t, z)
-      (by (eqb d.kind 0) (not_written (made_of d) ls (cell64 c) p.ordinary (side_cell ls t) (ap (λ (q : Cell). belowᶜ q (cell64 c)) (sym weight_cell) ∙ sym e ∙ f)))
-    where
-      by : (b : Bool) → write (line (made_of d)) ls ≡ ls → write (cond b nothing (line (made_of d))) ls ≡ ls
-      by true h = refl
-      by false h = h
+  pub kept_notable : (t : Bool) → IfSome (then_some t d) (Notable n)
+  kept_notable true = p.notable
+  kept_notable false = tt
 
 pub known_room : {n : ℕ} {work : List ℤ} → Known n work → 4 * (n * n) ≤ length work
 known_room k = k.standing.holds.room
@@ -222,12 +218,12 @@ sum_number n work part x y z low a b w ea eb ew =
     sum ∙ sym (below_number (weight_in n work part x y +ᶜ weight_in n work part y z) (weight_in n work part x z) sum low)
 
 -- the join that was made of two bests as they were read
-module _ (n : ℕ) (work : List ℤ) (s : Side) (kind x y z : ℕ) (hx : x < n) (hy : y < n) (hz : z < n) (hk : 1 ≤ kind) (lower : lowers_by n work (part_of s) y x z ≡ true)
+module _ (n : ℕ) (work : List ℤ) (s : Side) (kind x y z : ℕ) (hx : x < n) (hy : y < n) (hz : z < n) (lower : lowers_by n work (part_of s) y x z ≡ true)
     (a b : ℤ) (w : ℤ) (ea : a ≡ get_or work (spot_of n (part_of s) x y) (pos 0)) (eb : b ≡ get_or work (spot_of n (part_of s) y z) (pos 0))
     (ew : cell64 w ≡ cell64 a +ᶜ cell64 b) (f g : ℕ) where
   pub join_made : ((v : ℕ) → get_or work (spot_of n (suc (part_of s)) x y) (pos 0) ≡ pos v → f ≡ v)
       → ((v : ℕ) → get_or work (spot_of n (suc (part_of s)) y z) (pos 0) ≡ pos v → g ≡ v) → (ls : List Line) → Standing n ls work
-      → joined kind x z (best s x y ls) (best s y z ls) ≡ offer_of (record { kind = kind; from = x; to = z; weight = w; first = f; second = g })
+      → joined kind x z (best s x y ls) (best s y z ls) ≡ line (record { kind = kind; from = x; to = z; weight = w; first = f; second = g })
   join_made lf lg ls t =
       let xy = weight_read t s x y hx hy in
       let yz = weight_read t s y z hy hz in
@@ -236,15 +232,4 @@ module _ (n : ℕ) (work : List ℤ) (s : Side) (kind x y z : ℕ) (hx : x < n) 
       let sum : cell64 w ≡ cells s ls x y +ᶜ cells s ls y z = rw (← xy, ← yz, ← ea, ← eb) ew in
       let first : f ≡ line_of (best s x y ls) = lf (line_of (best s x y ls)) (t.holds.line s x y hx hy) in
       let second : g ≡ line_of (best s y z ls) = lg (line_of (best s y z ls)) (t.holds.line s y z hy hz) in
-      let some : eqb kind 0 ≡ false = ne_eqb kind 0 (λ e. omega arith) in
-      join_some s kind x y z ls low w (below_number (cells s ls x y +ᶜ cells s ls y z) (cells s ls x z) sum low) ∙ rw (some, first, second)
-
--- no line can be noted, and is an ordinary one
-pub nothing_plain : {n x : ℕ} {d : Draft} → x < n → Nothing d → Plain n d
-unfolding adding
-nothing_plain {n} {x} {d} h z =
-    record {
-      notable = record { from = rw z.from (omega arith); to = rw z.to (omega arith); number = rw z.weight (number_is adding.mark (pos 0) (omega ints)) };
-      ordinary = rw z.kind;
-      strict = rw z.kind;
-    }
+      join_some s kind x y z ls low w (below_number (cells s ls x y +ᶜ cells s ls y z) (cells s ls x z) sum low) ∙ rw (first, second)

@@ -1,30 +1,33 @@
--- A line that may be written, as the code holds it: of kind 0 where there is none. Assumes nothing.
-use Rattle.std.specs.Prelude.{◌≡◌, Bool, true, false, cond, List, ◌∷◌, Option, Some, None, ℕ, ◌≤◌, ◌<◌, eqb, ℤ, pos}
+-- A line that may be written, as the code holds it. Assumes nothing.
+use Rattle.std.specs.Prelude.{◌≡◌, Bool, true, false, List, ◌∷◌, Option, Some, None, ℕ, ◌≤◌, ◌<◌, ℤ}
 use Rattle.rules.specs.declared.Side.TheVariants.{Strict}
 use Rattle.rules.specs.Cells.{num, ◌+ᶜ◌}
 use Rattle.cell.specs.Steps.{cell64, belowᶜ}
 use Rattle.chain.specs.Lines.{Line}
 use Rattle.chain.specs.Reasons.{Offer, nothing, line, always, side_of, try}
 use Rattle.offers.specs.declared.Draft.{Draft}
+use Rattle.offers.specs.Kinds.{kind_number}
 use Rattle.offers.specs.Work.{weight_in, Standing}
 
 abbrev pub made_of : Draft → Line
-made_of d = record { kind = d.kind; from = d.from; to = d.to; weight = d.weight; first = d.first; second = d.second }
+made_of d = record { kind = kind_number d.kind; from = d.from; to = d.to; weight = d.weight; first = d.first; second = d.second }
 
--- what it offers
-abbrev pub offer_of : Draft → Offer
-offer_of d = cond (eqb d.kind 0) nothing (line (made_of d))
+-- what it offers, if there is one
+abbrev pub offer_of : Option Draft → Offer
+offer_of None = nothing
+offer_of (Some d) = line (made_of d)
 
 -- a list so far with that line, if there is one
-abbrev pub added : Draft → List Line → List Line
-added d ls = cond (eqb d.kind 0) ls (made_of d ∷ ls)
+abbrev pub added : Option Draft → List Line → List Line
+added None ls = ls
+added (Some d) ls = made_of d ∷ ls
 
 -- a draft is what a try offers to the list that the work room holds
-abbrev pub Offers : ℕ → List ℤ → (List Line → Offer) → Draft → Type 0
+abbrev pub Offers : ℕ → List ℤ → (List Line → Offer) → Option Draft → Type 0
 Offers n work offer d = (ls : List Line) → Standing n ls work → offer ls ≡ offer_of d
 
 -- and one is what a try adds
-abbrev pub Adds : ℕ → List ℤ → (List Line → Offer) → Draft → Type 0
+abbrev pub Adds : ℕ → List ℤ → (List Line → Offer) → Option Draft → Type 0
 Adds n work offer d = (ls : List Line) → Standing n ls work → try offer ls ≡ added d ls
 
 -- one that can be noted: between points of the plan, of a weight that is no mark
@@ -36,15 +39,8 @@ pub record Notable (n : ℕ) (d : Draft) : Type 0 where
 -- and that is written only if it beats the strict pair's best
 pub record Plain (n : ℕ) (d : Draft) : Type 0 where
   pub notable : Notable n d
-  pub ordinary : always d.kind ≡ false
-  pub strict : side_of d.kind ≡ Strict
-
--- no line, between point 0 and itself
-pub record Nothing (d : Draft) : Type 0 where
-  pub kind : d.kind ≡ 0
-  pub from : d.from ≡ 0
-  pub to : d.to ≡ 0
-  pub weight : d.weight ≡ pos 0
+  pub ordinary : always (kind_number d.kind) ≡ false
+  pub strict : side_of (kind_number d.kind) ≡ Strict
 
 -- whether a join by the middle y lowers the cell from x to z
 abbrev pub lowers_by : ℕ → List ℤ → ℕ → ℕ → ℕ → ℕ → Bool

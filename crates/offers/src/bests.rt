@@ -1,9 +1,9 @@
 // The bests so far, as the work room holds them: the weight and the line of the best of each pair.
-ghost use Rattle.std.specs.Prelude.{◌≡◌, List, ℕ, suc, ◌+◌, ◌*◌, ◌≤◌, ◌<◌, length, get_or, pos};
+ghost use Rattle.std.specs.Prelude.{◌≡◌, List, ℕ, suc, ◌+◌, ◌*◌, ◌≤◌, ◌<◌, length, get_or, pos, IfSome};
 ghost use Rattle.chain.specs.Lines.{Line};
 ghost use Rattle.chain.specs.Reasons.{Offer};
 ghost use Rattle.offers.specs.Work.{spot_of, part_of, Known};
-ghost use Rattle.offers.specs.Drafts.{Offers, Adds, Notable, Plain, Nothing};
+ghost use Rattle.offers.specs.Drafts.{Offers, Adds, Notable, Plain};
 
 use crate::Draft;
 use cell::Word;
@@ -54,28 +54,11 @@ impl<'a> Bests<'a> {
     }
 }
 
-// No line.
-pub fn no_draft() -> Draft
-    ensures { Nothing result }
-{
-    Draft {
-        kind: 0,
-        from: 0,
-        to: 0,
-        weight: 0,
-        first: 0,
-        second: 0,
-    }
-}
-
 // What a try of an ordinary line adds: the line, if it beats the strict pair's best.
-pub fn kept(work: Bests, d: Draft) -> Draft
+pub fn kept(work: Bests, d: Draft) -> Option<Draft>
     requires { Plain work.plan.n d }
-    ensures { ((offer : List Line → Offer) → Offers work.entry.plan.n work.entry.cells.now offer d → Adds work.entry.plan.n work.entry.cells.now offer result) × Notable work.entry.plan.n result }
+    ensures { ((offer : List Line → Offer) → Offers work.entry.plan.n work.entry.cells.now offer (Some d) → Adds work.entry.plan.n work.entry.cells.now offer result) × IfSome result (Notable work.entry.plan.n) }
 {
-    let w = d.weight;
-    if w.below(work.weight(Side::Strict, d.from, d.to)) {
-        return d;
-    }
-    no_draft()
+    let best = work.weight(Side::Strict, d.from, d.to);
+    d.weight.below(best).then_some(d)
 }

@@ -5,17 +5,19 @@
 mod bests;
 mod given;
 mod joins;
+mod kinds;
 mod rules_of;
 
-pub use bests::{Bests, kept, no_draft, spot, weights_of};
-pub use given::{limit_draft, link_draft, start_draft};
+pub use bests::{Bests, kept, spot, weights_of};
+pub use given::{limit_draft, longest_draft, lower_case_draft, shortest_draft, start_draft};
 pub use joins::{join_draft, next_join};
+pub use kinds::Kind;
 pub use rules_of::{lower_draft, upper_draft};
 
-// A line that may be written; of kind 0 where there is none.
+// A line that may be written.
 #[derive(Clone, Copy)]
 pub struct Draft {
-    pub kind: u32,
+    pub kind: Kind,
     pub from: u32,
     pub to: u32,
     pub weight: i64,

@@ -24,9 +24,9 @@ use Rattle.chain.proofs.OneList.{one}
 use Rattle.rules.specs.declared.Refusal.{Refusal}
 use Rattle.std.specs.Prelude.{Err}
 use Rattle.answers.proofs.CodeZero.{not_done}
-use Rattle.reasons.specs.declared.Run.{Run}
+use Rattle.std.specs.declared.ops.ControlFlow.{ControlFlow}
 use Rattle.reasons.specs.Notes.{laid}
-use Rattle.reasons.specs.Working.{Worked}
+use Rattle.reasons.specs.Working.{lines_of, ended_of, Worked}
 use Rattle.reasons.proofs.ListLaws.{laid_none, laid_listed, room_roomy}
 use Rattle.reasons.proofs.WorkLaws.{kept_trans}
 
@@ -66,19 +66,19 @@ module _ {s : List ℕ} {n m k : ℕ} (r : Ready s n m k) where
   work_is : 4 * (n * n) ≡ 4 * ((plan_of s).points * (plan_of s).points)
   work_is = ap (λ (c : ℕ). 4 * (c * c)) (sym (ready_points s n m k r))
 
-  module _ {first lists : Lists} {work work₁ : List ℤ} {run : Run} (room : 4 * (n * n) ≤ length work) (kept : Kept (4 * (n * n)) work work₁)
+  module _ {first lists : Lists} {work work₁ : List ℤ} {run : ControlFlow ℕ ℕ} (room : 4 * (n * n) ≤ length work) (kept : Kept (4 * (n * n)) work work₁)
       (w : Worked (plan_of s) 0 first run lists work₁) where
     -- the pass that counts writes no line
     pub counted_lists : lists ≡ first
     counted_lists = w.is.are ∙ laid_none w.lines first
 
-    pub answer_done : {work₂ : List ℤ} → run.ended ≡ false → Filled (4 * (n * n)) (pos zero) work₁ work₂ → Reasoned (file_answer s) (plan_of s) first work Done lists work₂
+    pub answer_done : {work₂ : List ℤ} → ended_of run ≡ false → Filled (4 * (n * n)) (pos zero) work₁ work₂ → Reasoned (file_answer s) (plan_of s) first work Done lists work₂
     answer_done {work₂} e f =
         rw counted_lists
         (Reasoned.controllable r.sound (rw (← work_is) room) w.reasons (sym w.is.ends ∙ e)
         (subst (λ (c : ℕ). Filled c (pos zero) work work₂) work_is (cleared kept f)))
 
-    pub answer_long : {work₂ : List ℤ} → run.ended ≡ true → room_of first < run.lines → Filled (4 * (n * n)) (pos zero) work₁ work₂
+    pub answer_long : {work₂ : List ℤ} → ended_of run ≡ true → room_of first < lines_of run → Filled (4 * (n * n)) (pos zero) work₁ work₂
         → Reasoned (file_answer s) (plan_of s) first work ShortRoom lists work₂
     answer_long {work₂} e l f =
         rw counted_lists
@@ -86,9 +86,9 @@ module _ {s : List ℕ} {n m k : ℕ} (r : Ready s n m k) where
         (subst (λ (c : ℕ). Filled c (pos zero) work work₂) work_is (cleared kept f)))
 
     -- the pass that writes writes the same list
-    pub answer_listed : {run' : Run} {lists' : Lists} {work₂ work₃ : List ℤ} → run.ended ≡ true → run.lines ≤ room_of first → Kept (4 * (n * n)) work₁ work₂
+    pub answer_listed : {run' : ControlFlow ℕ ℕ} {lists' : Lists} {work₂ work₃ : List ℤ} → ended_of run ≡ true → lines_of run ≤ room_of first → Kept (4 * (n * n)) work₁ work₂
         → Worked (plan_of s) (room_of first) lists run' lists' work₂ → Filled (4 * (n * n)) (pos zero) work₂ work₃
-        → Reasoned (file_answer s) (plan_of s) first work (ReasonsListed run.lines) lists' work₃
+        → Reasoned (file_answer s) (plan_of s) first work (ReasonsListed (lines_of run)) lists' work₃
     answer_listed {run'} {lists'} {work₂} {work₃} e l kept' v f =
         let same : v.lines ≡ w.lines = one (plan_of s) v.lines w.lines v.reasons w.reasons in
         let few : length w.lines ≤ room_of first = subst (λ (c : ℕ). c ≤ room_of first) w.is.counted l in

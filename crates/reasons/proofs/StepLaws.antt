@@ -1,15 +1,14 @@
 -- What one step adds: joins passed by and made, and the tries of the other parts. Assumes nothing.
 use mathlib.Core.Path.{◌≡◌, refl, sym, ap, subst, ◌∙◌}
 use mathlib.Core.Logic.{inl, inr}
-use mathlib.Core.Bool.{Bool, true, false, cond, true≢false}
+use mathlib.Core.Bool.{true, false, true≢false}
+use Rattle.std.specs.Prelude.{Option, Some, None, IfSome}
 use mathlib.Core.List.{List, ◌∷◌}
 use Prim.Native.Nat.{ℕ, zero, suc, ◌+◌, ◌≤◌, ◌<◌}
 use native.Mathlib.Nat.{add-zero, zero-add}
 use native.Mathlib.Omega.{arith}
-use lib.Dec.{eqb}
 use lib.ListN.{get_or}
 use lib.IntN.{ℤ, pos}
-use borrow.Author.Tests.{ne_eqb}
 use Rattle.whole.proofs.Order.{ints}
 use Rattle.rules.specs.declared.Side.{Side}
 use Rattle.rules.specs.declared.Side.TheVariants.{Strict, Open}
@@ -23,9 +22,10 @@ use Rattle.lowering.proofs.Laws.ReadyFile.{ready_points, limit_range}
 use Rattle.chain.specs.Lines.{Line, start_line, limit_line, best, line_of, cells}
 use Rattle.chain.specs.Reasons.{Offer, nothing, line, always, side_of, write, ended, try, joined, strict_offer, open_offer, start_offer, limit_offer, link_offer, limit_of, link_of, lower_offer, upper_offer, lower_case_at, longest_at}
 use Rattle.offers.specs.declared.Draft.{Draft}
+use Rattle.offers.specs.Kinds.{kind_number}
 use Rattle.offers.specs.Work.{part_of, Standing}
-use Rattle.offers.specs.Drafts.{made_of, offer_of, added, Offers, Adds, Notable, Plain, Nothing, lowers_by, NoneBefore, Lowering}
-use Rattle.offers.proofs.OfferLaws.{weight_read, join_none, join_some, is_written, nothing_plain}
+use Rattle.offers.specs.Drafts.{made_of, Offers, Adds, Notable, Plain, lowers_by, NoneBefore, Lowering}
+use Rattle.offers.proofs.OfferLaws.{weight_read, join_none, join_some, is_written}
 use Rattle.reasons.specs.declared.Place.{Place}
 use Rattle.reasons.specs.Stands.{steps_of, outer, middle, inner, Moves, Placed, TryLeft}
 use Rattle.reasons.specs.Stepping.{Tried, within, beyond, Stepped, Joins, strict, weak}
@@ -33,31 +33,18 @@ use Rattle.reasons.proofs.PlaceLaws.{move_step, move_inner, move_middle, move_pa
 
 -- ---- a draft and its line
 
--- whether an offer is a line, and which
-abbrev is_line : Offer → Bool
-is_line nothing = false
-is_line (line l) = true
-
+-- the line of an offer
 abbrev line_in : Line → Offer → Line
 line_in d nothing = d
 line_in d (line l) = l
 
--- a draft that offers a line adds that one
-pub added_by : (d : Draft) (l : Line) (ls : List Line) → line l ≡ offer_of d → l ∷ ls ≡ added d ls
-added_by d l ls e = by (eqb d.kind 0) e
-  where
-    by : (b : Bool) → line l ≡ cond b nothing (line (made_of d)) → l ∷ ls ≡ cond b ls (made_of d ∷ ls)
-    by true f = absurd (true≢false (ap is_line f))
-    by false f = ap (λ (o : Offer). line_in l o ∷ ls) f
+same_offered : {l m : Line} → line l ≡ line m → l ≡ m
+same_offered {l} e = ap (line_in l) e
 
 -- a line that is always written
-pub always_adds : (d : Draft) (o : List Line → Offer) (ls : List Line) → always d.kind ≡ true → o ls ≡ offer_of d → ended ls ≡ false → try o ls ≡ added d ls
+pub always_adds : (l : Line) (o : List Line → Offer) (ls : List Line) → always l.kind ≡ true → o ls ≡ line l → ended ls ≡ false → try o ls ≡ l ∷ ls
 unfolding try write
-always_adds d o ls a e g = rw (g, e) (by (eqb d.kind 0))
-  where
-    by : (b : Bool) → write (cond b nothing (line (made_of d))) ls ≡ cond b ls (made_of d ∷ ls)
-    by true = refl
-    by false = rw a
+always_adds l o ls a e g = rw (g, e, a)
 
 -- ---- joins
 
@@ -68,17 +55,17 @@ module _ {n : ℕ} {ls : List Line} {work : List ℤ} (t : Standing n ls work) (
 
   -- one that lowers the cell is written
   written : side_of kind ≡ s → belowᶜ (cells s ls x y +ᶜ cells s ls y z) (cells s ls x z) ≡ true → (d : Draft)
-      → joined kind x z (best s x y ls) (best s y z ls) ≡ offer_of d → write (joined kind x z (best s x y ls) (best s y z ls)) ls ≡ added d ls
+      → joined kind x z (best s x y ls) (best s y z ls) ≡ line (made_of d) → write (joined kind x z (best s x y ls) (best s y z ls)) ls ≡ made_of d ∷ ls
   written o low d e = by (cells s ls x y +ᶜ cells s ls y z) refl
     where
-      by : (c : Cell) → cells s ls x y +ᶜ cells s ls y z ≡ c → write (joined kind x z (best s x y ls) (best s y z ls)) ls ≡ added d ls
+      by : (c : Cell) → cells s ls x y +ᶜ cells s ls y z ≡ c → write (joined kind x z (best s x y ls) (best s y z ls)) ls ≡ made_of d ∷ ls
       by mark q = absurd (true≢false (sym low ∙ ap (λ (c : Cell). belowᶜ c (cells s ls x z)) q))
       by (num w) q =
           let l : Line = record { kind = kind; from = x; to = z; weight = w; first = line_of (best s x y ls); second = line_of (best s y z ls) } in
           let j : joined kind x z (best s x y ls) (best s y z ls) ≡ line l = join_some s kind x y z ls low w (sym q) in
           ap (λ (f : Offer). write f ls) j
           ∙ is_written l ls (cells s ls x z) (ap (λ (v : Side). cells v ls x z) o) (ap (λ (c : Cell). belowᶜ c (cells s ls x z)) (sym q) ∙ low)
-          ∙ added_by d l ls (sym j ∙ e)
+          ∙ ap (λ (m : Line). m ∷ ls) (same_offered (sym j ∙ e))
 
 module _ {n : ℕ} {ls : List Line} {work : List ℤ} (t : Standing n ls work) (p : Plan) (g : ℕ) (s : Side) (kind phase x y z : ℕ) (hx : x < n) (hy : y < n) (hz : z < n) where
   -- a join that does not lower its cell adds nothing
@@ -91,19 +78,19 @@ module _ {n : ℕ} {ls : List Line} {work : List ℤ} (t : Standing n ls work) (
 
   -- and one that does adds its line
   pub join_adds : Joins s kind phase → lowers_by n work (part_of s) y x z ≡ true → (d : Draft)
-      → ((ls : List Line) → Standing n ls work → joined kind x z (best s x y ls) (best s y z ls) ≡ offer_of d)
-      → steps_of p g phase y x z ls ≡ added d ls
+      → ((ls : List Line) → Standing n ls work → joined kind x z (best s x y ls) (best s y z ls) ≡ line (made_of d))
+      → steps_of p g phase y x z ls ≡ made_of d ∷ ls
   unfolding try strict_offer open_offer
   join_adds (strict a b c) low d made =
       rw (c, t.going)
       (written t Strict 6 x y z hx hy hz refl (sym (lowers_is t Strict 6 x y z hx hy hz) ∙ rw a at low) d
-      (subst (λ (k : ℕ). joined k x z (best Strict x y ls) (best Strict y z ls) ≡ offer_of d) b
-      (subst (λ (q : Side). joined kind x z (best q x y ls) (best q y z ls) ≡ offer_of d) a (made ls t))))
+      (subst (λ (k : ℕ). joined k x z (best Strict x y ls) (best Strict y z ls) ≡ line (made_of d)) b
+      (subst (λ (q : Side). joined kind x z (best q x y ls) (best q y z ls) ≡ line (made_of d)) a (made ls t))))
   join_adds (weak a b c) low d made =
       rw (c, t.going)
       (written t Open 9 x y z hx hy hz refl (sym (lowers_is t Open 9 x y z hx hy hz) ∙ rw a at low) d
-      (subst (λ (k : ℕ). joined k x z (best Open x y ls) (best Open y z ls) ≡ offer_of d) b
-      (subst (λ (q : Side). joined kind x z (best q x y ls) (best q y z ls) ≡ offer_of d) a (made ls t))))
+      (subst (λ (k : ℕ). joined k x z (best Open x y ls) (best Open y z ls) ≡ line (made_of d)) b
+      (subst (λ (q : Side). joined kind x z (best q x y ls) (best q y z ls) ≡ line (made_of d)) a (made ls t))))
 
 -- ---- a step of joins
 
@@ -139,20 +126,20 @@ module _ (p : Plan) (g n : ℕ) (work : List ℤ) (s : Side) (kind : ℕ) (at : 
       move_passed p g at.phase at.a at.b at.c z ls from
       (λ i h k. join_passes (here ls t) p g s kind at.phase at.b at.a i hb ha (omega arith) j (q.stays i h k))
 
-  pub join_none_left : (d : Draft) → NoneBefore n work (part_of s) at.a at.b at.c n → Nothing d
-      → Stepped p g work at (record { line = d; next = record { phase = at.phase; a = at.a; b = at.b; c = n } })
-  join_none_left d q z =
+  pub join_none_left : NoneBefore n work (part_of s) at.a at.b at.c n
+      → Stepped p g work at (record { line = None; next = record { phase = at.phase; a = at.a; b = at.b; c = n } })
+  join_none_left q =
       record {
-        moves = λ ls t. rw z.kind (passed n (omega arith) (omega arith) q ls (t left));
-        goes = within refl (inl z.kind);
-        notable = subst (λ (m : ℕ). Notable m d) (sym points) (nothing_plain ha z).notable;
+        moves = λ ls t. passed n (omega arith) (omega arith) q ls (t left);
+        goes = within refl (inl refl);
+        notable = tt;
         placed = placed_at n (omega arith);
         falls = left_step at.phase at.a at.b at.c n hc few;
       }
 
   pub join_one_left : (d : Draft) (z : ℕ) → Lowering n work (part_of s) at.a at.b at.c z
-      → ((ls : List Line) → Standing n ls work → joined kind at.b z (best s at.b at.a ls) (best s at.a z ls) ≡ offer_of d)
-      → Notable n d → Stepped p g work at (record { line = d; next = record { phase = at.phase; a = at.a; b = at.b; c = z + 1 } })
+      → ((ls : List Line) → Standing n ls work → joined kind at.b z (best s at.b at.a ls) (best s at.a z ls) ≡ line (made_of d))
+      → Notable n d → Stepped p g work at (record { line = Some d; next = record { phase = at.phase; a = at.a; b = at.b; c = z + 1 } })
   join_one_left d z q made note =
       record {
         moves = λ ls t from h base e.
@@ -166,16 +153,16 @@ module _ (p : Plan) (g n : ℕ) (work : List ℤ) (s : Side) (kind : ℕ) (at : 
 
 -- ---- on from a loop that is through
 
-module _ (p : Plan) (g : ℕ) (work : List ℤ) (at : Place) (d : Draft) (q : Placed p at) (z : Nothing d) (some : 0 < p.points) where
+module _ (p : Plan) (g : ℕ) (work : List ℤ) (at : Place) (q : Placed p at) where
   pub part_through : at.phase < 7 → at.a ≤ 1024 → at.b ≤ 64 → at.c ≤ 64 → outer p at.phase ≤ at.a
-      → Stepped p g work at (record { line = d; next = record { phase = at.phase + 1; a = 0; b = 0; c = 0 } })
+      → Stepped p g work at (record { line = None; next = record { phase = at.phase + 1; a = 0; b = 0; c = 0 } })
   part_through hp la lb lc h =
       let none = q.a_through h in
       let all : outer p at.phase ≡ at.a = omega (arith, q.a_most) in
       record {
-        moves = λ ls t. rw z.kind (by none.0 none.1 ls all);
-        goes = beyond z.kind refl;
-        notable = (nothing_plain some z).notable;
+        moves = λ ls t. by none.0 none.1 ls all;
+        goes = beyond refl refl;
+        notable = tt;
         placed = record {
           a_most = omega arith;
           b_most = omega arith;
@@ -193,14 +180,14 @@ module _ (p : Plan) (g : ℕ) (work : List ℤ) (at : Place) (d : Draft) (q : Pl
           (move_part p g at.phase at.a ls all))
 
   pub middle_through : at.a ≤ 1024 → at.b ≤ 64 → at.c ≤ 64 → at.a < outer p at.phase → middle p at.phase ≤ at.b
-      → Stepped p g work at (record { line = d; next = record { phase = at.phase; a = at.a + 1; b = 0; c = 0 } })
+      → Stepped p g work at (record { line = None; next = record { phase = at.phase; a = at.a + 1; b = 0; c = 0 } })
   middle_through la lb lc ha h =
       let none = q.b_through h in
       let all : middle p at.phase ≡ at.b = omega (arith, q.b_most) in
       record {
-        moves = λ ls t. rw z.kind (by none ls all);
-        goes = within refl (inl z.kind);
-        notable = (nothing_plain some z).notable;
+        moves = λ ls t. by none ls all;
+        goes = within refl (inl refl);
+        notable = tt;
         placed = record {
           a_most = omega arith;
           b_most = omega arith;
@@ -217,13 +204,13 @@ module _ (p : Plan) (g : ℕ) (work : List ℤ) (at : Place) (d : Draft) (q : Pl
           (move_middle p g at.phase at.a at.b ls all)
 
   pub inner_through : at.b ≤ 64 → at.c ≤ 64 → at.a < outer p at.phase → at.b < middle p at.phase → inner p at.phase ≤ at.c
-      → Stepped p g work at (record { line = d; next = record { phase = at.phase; a = at.a; b = at.b + 1; c = 0 } })
+      → Stepped p g work at (record { line = None; next = record { phase = at.phase; a = at.a; b = at.b + 1; c = 0 } })
   inner_through lb lc ha hb h =
       let all : inner p at.phase ≡ at.c = omega (arith, q.c_most) in
       record {
-        moves = λ ls t. rw z.kind (move_inner p g at.phase at.a at.b at.c ls all);
-        goes = within refl (inl z.kind);
-        notable = (nothing_plain some z).notable;
+        moves = λ ls t. move_inner p g at.phase at.a at.b at.c ls all;
+        goes = within refl (inl refl);
+        notable = tt;
         placed = record {
           a_most = omega arith;
           b_most = omega arith;
@@ -235,7 +222,7 @@ module _ (p : Plan) (g : ℕ) (work : List ℤ) (at : Place) (d : Draft) (q : Pl
       }
 
 -- a try
-pub try_left : (p : Plan) (g : ℕ) (work : List ℤ) (at : Place) (d : Draft) → at.c < 64 → at.a < outer p at.phase → at.b < middle p at.phase
+pub try_left : (p : Plan) (g : ℕ) (work : List ℤ) (at : Place) (d : Option Draft) → at.c < 64 → at.a < outer p at.phase → at.b < middle p at.phase
     → at.c < inner p at.phase → Tried p g work at d
     → Stepped p g work at (record { line = d; next = record { phase = at.phase; a = at.a; b = at.b; c = at.c + 1 } })
 try_left p g work at d lc ha hb hc q =
@@ -253,11 +240,6 @@ try_left p g work at d lc ha hb hc q =
       };
       falls = left_step at.phase at.a at.b at.c (at.c + 1) (omega arith) (omega arith);
     }
-
--- the kind of joins is one
-pub joins_kind : {s : Side} {kind phase : ℕ} → Joins s kind phase → 1 ≤ kind
-joins_kind (strict a b c) = omega arith
-joins_kind (weak a b c) = omega arith
 
 -- ---- the tries of what is given, of Lower and of Upper
 
@@ -283,7 +265,7 @@ module _ (s : List ℕ) (n m k : ℕ) (r : Ready s n m k) (i : ℕ) where
 pub start_plain : {n x : ℕ} {d : Draft} → x < n → made_of d ≡ start_line x → Plain n d
 unfolding adding
 start_plain {n} {x} {d} h e =
-    let kind : d.kind ≡ 1 = ap (λ (l : Line). l.kind) e in
+    let kind : kind_number d.kind ≡ 1 = ap (λ (l : Line). l.kind) e in
     let from : d.from ≡ x = ap (λ (l : Line). l.from) e in
     let to : d.to ≡ 0 = ap (λ (l : Line). l.to) e in
     let weight : d.weight ≡ pos 0 = ap (λ (l : Line). l.weight) e in
@@ -297,7 +279,7 @@ pub limit_plain : {s : List ℕ} {n m k i : ℕ} {d : Draft} → Ready s n m k �
 unfolding adding version1
 limit_plain {s} {n} {m} {k} {i} {d} r h e =
     let q : LimitInRange version1 n (limit_at s i) = limit_range s n m k r i h in
-    let kind : d.kind ≡ 2 = ap (λ (l : Line). l.kind) e in
+    let kind : kind_number d.kind ≡ 2 = ap (λ (l : Line). l.kind) e in
     let from : d.from ≡ (limit_at s i).from = ap (λ (l : Line). l.from) e in
     let to : d.to ≡ (limit_at s i).to = ap (λ (l : Line). l.to) e in
     let weight : d.weight ≡ (limit_at s i).weight = ap (λ (l : Line). l.weight) e in
@@ -312,42 +294,29 @@ limit_plain {s} {n} {m} {k} {i} {d} r h e =
     }
 
 -- they offer themselves
-offers_itself : (d : Draft) (l : Line) → made_of d ≡ l → 0 < l.kind → line l ≡ offer_of d
-offers_itself d l e h =
-    let kind : d.kind ≡ l.kind = ap (λ (q : Line). q.kind) e in
-    rw (ne_eqb d.kind 0 (λ z. omega arith)) (ap line (sym e))
-
-pub start_offers : (n : ℕ) (work : List ℤ) (x : ℕ) (d : Draft) → made_of d ≡ start_line x → Offers n work (start_offer x) d
+pub start_offers : (n : ℕ) (work : List ℤ) (x : ℕ) (d : Draft) → made_of d ≡ start_line x → Offers n work (start_offer x) (Some d)
 unfolding start_offer
-start_offers n work x d e ls t = offers_itself d (start_line x) e (omega arith)
+start_offers n work x d e ls t = ap line (sym e)
 
-pub limit_offers : (n : ℕ) (work : List ℤ) (i : ℕ) (l : Limit) (d : Draft) → made_of d ≡ limit_line i l → Offers n work (limit_offer i l) d
+pub limit_offers : (n : ℕ) (work : List ℤ) (i : ℕ) (l : Limit) (d : Draft) → made_of d ≡ limit_line i l → Offers n work (limit_offer i l) (Some d)
 unfolding limit_offer
-limit_offers n work i l d e ls t = offers_itself d (limit_line i l) e (omega arith)
+limit_offers n work i l d e ls t = ap line (sym e)
 
 -- ---- the try at a place
 
 -- what a plan of a sound file tries, by part
-module _ (s : List ℕ) (n m k : ℕ) (r : Ready s n m k) (g : ℕ) (work : List ℤ) (at : Place) (d : Draft) (note : Notable n d) where
+module _ (s : List ℕ) (n m k : ℕ) (r : Ready s n m k) (g : ℕ) (work : List ℤ) (at : Place) (d : Option Draft) (note : IfSome d (Notable n)) where
   here_is : (ls : List Line) → Standing (plan_of s).points ls work → Standing n ls work
   here_is ls t = subst (λ (c : ℕ). Standing c ls work) (ready_points s n m k r) t
 
-  note_is : Notable (plan_of s).points d
-  note_is = subst (λ (c : ℕ). Notable c d) (sym (ready_points s n m k r)) note
+  note_is : IfSome d (Notable (plan_of s).points)
+  note_is = subst (λ (c : ℕ). IfSome d (Notable c)) (sym (ready_points s n m k r)) note
 
   pub tried_start : at.phase ≡ 0 → Adds n work (start_offer at.a) d → Tried (plan_of s) g work at d
   tried_start e q = record { adds = λ ls t. rw e (q ls (here_is ls t)); notable = note_is }
 
   pub tried_limit : at.phase ≡ 1 → at.a < m → Adds n work (limit_offer at.a (limit_at s at.a)) d → Tried (plan_of s) g work at d
   tried_limit e h q = record { adds = λ ls t. rw (e, limit_is s n m k r at.a h) (q ls (here_is ls t)); notable = note_is }
-
-  pub tried_link : at.phase ≡ 2 → at.a < k → always d.kind ≡ true → ((ls : List Line) → link_offer at.a (link_at s m at.a) at.c ls ≡ offer_of d)
-      → Tried (plan_of s) g work at d
-  tried_link e h a q =
-      record {
-        adds = λ ls t. rw (e, link_is s n m k r at.a h) (always_adds d (link_offer at.a (link_at s m at.a) at.c) ls a (q ls) t.going);
-        notable = note_is;
-      }
 
   pub tried_lower : at.phase ≡ 4 → at.a < k → at.b < k → Adds n work (lower_offer (lower_case_at g at.a) (link_at s m at.a) (link_at s m at.b)) d
       → Tried (plan_of s) g work at d
@@ -356,3 +325,12 @@ module _ (s : List ℕ) (n m k : ℕ) (r : Ready s n m k) (g : ℕ) (work : List
 
   pub tried_upper : at.phase ≡ 5 → at.b < k → Adds n work (upper_offer (longest_at g at.b) at.a (link_at s m at.b)) d → Tried (plan_of s) g work at d
   tried_upper e h q = record { adds = λ ls t. rw (e, link_is s n m k r at.b h) (q ls (here_is ls t)); notable = note_is }
+
+-- the lines of a link are always written
+pub tried_link : (s : List ℕ) (n m k : ℕ) (r : Ready s n m k) (g : ℕ) (work : List ℤ) (at : Place) (d : Draft) → Notable n d → at.phase ≡ 2 → at.a < k
+    → always (kind_number d.kind) ≡ true → ((ls : List Line) → link_offer at.a (link_at s m at.a) at.c ls ≡ line (made_of d)) → Tried (plan_of s) g work at (Some d)
+tried_link s n m k r g work at d note e h a q =
+    record {
+      adds = λ ls t. rw (e, link_is s n m k r at.a h) (always_adds (made_of d) (link_offer at.a (link_at s m at.a) at.c) ls a (q ls) t.going);
+      notable = subst (λ (c : ℕ). Notable c d) (sym (ready_points s n m k r)) note;
+    }

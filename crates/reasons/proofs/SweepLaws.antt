@@ -15,10 +15,10 @@ use Rattle.chain.specs.Reasons.{Offer, nothing, line, always, side_of, write, en
 use Rattle.chain.specs.Call.{Lists}
 use Rattle.chain.proofs.Keeping.{Keeps, try_keeps, sweep_keeps, any_sweep, links_stop}
 use Rattle.offers.specs.Work.{Holds}
-use Rattle.reasons.specs.declared.Run.{Run}
+use Rattle.std.specs.declared.ops.ControlFlow.{ControlFlow}
 use Rattle.reasons.specs.Stands.{through}
 use Rattle.reasons.specs.Notes.{laid}
-use Rattle.reasons.specs.Working.{Begun, Begins, Left, SweptTo, Swept, Sweeping, Worked}
+use Rattle.reasons.specs.Working.{lines_of, ended_of, Begun, Begins, Left, SweptTo, Swept, Sweeping, Worked}
 use Rattle.reasons.proofs.WorkLaws.{through_rest, kept_refl, kept_trans}
 use Rattle.reasons.proofs.FineLaws.{fine_sweep, fine_before, fine_links, sweeps_few, before_through, given_through, sweep_through}
 
@@ -54,7 +54,7 @@ module _ {p : Plan} {n g room : ℕ} (e : p.points ≡ n) (eg : g ≡ length (be
   pub sweep_begun : {c count : ℕ} {first lists : Lists} {work : List ℤ} → SweptTo p room c first count lists work → Begun p g 3 7 room (sweeps p c) first count lists work
   sweep_begun {c} q = rw eg (record { holds = q.holds; counted = q.counted; are = q.are; going = q.going; fine = fine_sweep p h c })
 
-  module _ {c count : ℕ} {first lists lists' : Lists} {work work' : List ℤ} {run : Run} (q : SweptTo p room c first count lists work)
+  module _ {c count : ℕ} {first lists lists' : Lists} {work work' : List ℤ} {run : ControlFlow ℕ ℕ} (q : SweptTo p room c first count lists work)
       (l : Left n room (through p g 3 (7 - 3) (sweeps p c)) first run lists' work') where
     -- what it leaves
     swept : Left p.points room (sweeps p (suc c)) first run lists' work'
@@ -65,20 +65,20 @@ module _ {p : Plan} {n g room : ℕ} (e : p.points ≡ n) (eg : g ≡ length (be
     whole : sweep p (length (before_links p)) (sweeps p (suc c)) ≡ sweeps p (suc c) → Worked p room first run lists' work'
     whole s = record { lines = sweeps p (suc c); reasons = record { count = suc c; swept = refl; stays = s }; is = swept }
 
-    pub sweep_ended : run.ended ≡ true → Worked p room first run lists' work'
+    pub sweep_ended : ended_of run ≡ true → Worked p room first run lists' work'
     sweep_ended t = whole (sweep_stops p (length (before_links p)) (sweeps p (suc c)) (sym swept.ends ∙ t))
 
-    pub sweep_still : run.lines ≡ count → Worked p room first run lists' work'
+    pub sweep_still : lines_of run ≡ count → Worked p room first run lists' work'
     sweep_still t =
         let lines : length (sweep p (length (before_links p)) (sweeps p c)) ≡ length (sweeps p c) = ap length (sym (next_sweep p c)) ∙ sym swept.counted ∙ t ∙ q.counted in
         let still : sweep p (length (before_links p)) (sweeps p c) ≡ sweeps p c = (sweep_grows p (length (before_links p)) (sweeps p c)).same lines in
         whole (ap (sweep p (length (before_links p))) (next_sweep p c ∙ still) ∙ sym (next_sweep p c))
 
-    pub sweep_more : run.ended ≡ false → SweptTo p room (suc c) first run.lines lists' work'
+    pub sweep_more : ended_of run ≡ false → SweptTo p room (suc c) first (lines_of run) lists' work'
     sweep_more t = record { holds = swept.holds; counted = swept.counted; are = swept.are; going = sym swept.ends ∙ t }
 
     -- the lines get more, and never too many
-    pub sweep_longer : run.ended ≡ false → run.lines ≢ count → (count < run.lines) × (run.lines < roomy.reach)
+    pub sweep_longer : ended_of run ≡ false → lines_of run ≢ count → (count < lines_of run) × (lines_of run < roomy.reach)
     sweep_longer t ne =
         let grows : length (sweeps p c) ≤ length (sweep p (length (before_links p)) (sweeps p c)) = (sweep_grows p (length (before_links p)) (sweeps p c)).longer in
         let same : length (sweeps p (suc c)) ≡ length (sweep p (length (before_links p)) (sweeps p c)) = ap length (next_sweep p c) in
@@ -137,7 +137,7 @@ module _ {p : Plan} {n g room count₀ : ℕ} {lists₀ : Lists} {work₀ : List
           begun = sweep_begun e eg h q.known.swept.is;
         }
 
-    module _ {run : Run} {lists' : Lists} {work' : List ℤ} (k : Kept (4 * (n * n)) work work')
+    module _ {run : ControlFlow ℕ ℕ} {lists' : Lists} {work' : List ℤ} (k : Kept (4 * (n * n)) work work')
         (left : (base : List Line) (first : Lists) → Begun p g 3 7 room base first count lists work → Left n room (through p g 3 (7 - 3) base) first run lists' work') where
       -- what one sweep leaves
       one : {first : Lists} (t : Swept p room first count lists work) → Left n room (through p g 3 (7 - 3) (sweeps p t.times)) first run lists' work'
@@ -146,13 +146,13 @@ module _ {p : Plan} {n g room count₀ : ℕ} {lists₀ : Lists} {work₀ : List
       pub sweeping_kept : Kept (4 * (n * n)) work₀ work'
       sweeping_kept = kept_trans q.kept k
 
-      pub sweeping_ended : run.ended ≡ true → (first : Lists) → Swept p room first count₀ lists₀ work₀ → Worked p room first run lists' work'
+      pub sweeping_ended : ended_of run ≡ true → (first : Lists) → Swept p room first count₀ lists₀ work₀ → Worked p room first run lists' work'
       sweeping_ended t first f = let w = q.stands first f in sweep_ended e eg h w.is (one w) t
 
-      pub sweeping_still : run.lines ≡ count → (first : Lists) → Swept p room first count₀ lists₀ work₀ → Worked p room first run lists' work'
+      pub sweeping_still : lines_of run ≡ count → (first : Lists) → Swept p room first count₀ lists₀ work₀ → Worked p room first run lists' work'
       sweeping_still t first f = let w = q.stands first f in sweep_still e eg h w.is (one w) t
 
-      pub sweeping_more : run.ended ≡ false → SweepingOn p n room count₀ lists₀ work₀ run.lines lists' work'
+      pub sweeping_more : ended_of run ≡ false → SweepingOn p n room count₀ lists₀ work₀ (lines_of run) lists' work'
       sweeping_more t =
           record {
             kept = sweeping_kept;
@@ -160,7 +160,7 @@ module _ {p : Plan} {n g room count₀ : ℕ} {lists₀ : Lists} {work₀ : List
             stands = λ first f. let w = q.stands first f in record { times = suc w.times; is = sweep_more e eg h w.is (one w) t };
           }
 
-      pub sweeping_less : run.ended ≡ false → run.lines ≢ count → roomy.reach - run.lines < roomy.reach - count
+      pub sweeping_less : ended_of run ≡ false → lines_of run ≢ count → roomy.reach - lines_of run < roomy.reach - count
       sweeping_less t ne = let w = q.known.swept in let l = sweep_longer e eg h w.is (one w) t ne in omega (arith, l.0, l.1)
 
 -- ---- the whole list, from the start
@@ -177,16 +177,16 @@ module _ {p : Plan} {n room : ℕ} {lists₀ : Lists} (e : p.points ≡ n) (h : 
   begun_none q = record { holds = rw e q; counted = refl; are = refl; going = refl; fine = fine_before p h 0 }
 
   -- the lines before those of the links
-  module _ {run : Run} {lists : Lists} {work : List ℤ} (l : Left n room (through p 0 0 (2 - 0) []) lists₀ run lists work) where
+  module _ {run : ControlFlow ℕ ℕ} {lists : Lists} {work : List ℤ} (l : Left n room (through p 0 0 (2 - 0) []) lists₀ run lists work) where
     before : Left p.points room (before_links p) lists₀ run lists work
     before =
         subst (λ (ls : List Line). Left p.points room ls lists₀ run lists work) (before_through p 0)
         (subst (λ (m : ℕ). Left m room (through p 0 0 2 []) lists₀ run lists work) (sym e) l)
 
-    pub before_counted : run.lines ≡ length (before_links p)
+    pub before_counted : lines_of run ≡ length (before_links p)
     before_counted = before.counted
 
-    pub before_ended : run.ended ≡ true → Worked p room lists₀ run lists work
+    pub before_ended : ended_of run ≡ true → Worked p room lists₀ run lists work
     before_ended t =
         let stop : ended (before_links p) ≡ true = sym before.ends ∙ t in
         let all : sweeps p 0 ≡ before_links p = given_stays p stop in
@@ -196,18 +196,18 @@ module _ {p : Plan} {n room : ℕ} {lists₀ : Lists} (e : p.points ≡ n) (h : 
           is = before;
         }
 
-    pub begun_before : run.ended ≡ false → Begun p 0 2 3 room (before_links p) lists₀ run.lines lists work
+    pub begun_before : ended_of run ≡ false → Begun p 0 2 3 room (before_links p) lists₀ (lines_of run) lists work
     begun_before t =
         record { holds = before.holds; counted = before.counted; are = before.are; going = sym before.ends ∙ t; fine = fine_links p h 0 }
 
   -- with those of the links
-  module _ {run : Run} {lists : Lists} {work : List ℤ} (l : Left n room (through p 0 2 (3 - 2) (before_links p)) lists₀ run lists work) where
+  module _ {run : ControlFlow ℕ ℕ} {lists : Lists} {work : List ℤ} (l : Left n room (through p 0 2 (3 - 2) (before_links p)) lists₀ run lists work) where
     all_given : Left p.points room (sweeps p 0) lists₀ run lists work
     all_given =
         subst (λ (ls : List Line). Left p.points room ls lists₀ run lists work) (given_through p 0)
         (subst (λ (m : ℕ). Left m room (through p 0 2 1 (before_links p)) lists₀ run lists work) (sym e) l)
 
-    pub given_ended : run.ended ≡ true → Worked p room lists₀ run lists work
+    pub given_ended : ended_of run ≡ true → Worked p room lists₀ run lists work
     given_ended t =
         record {
           lines = sweeps p 0;
@@ -215,7 +215,7 @@ module _ {p : Plan} {n room : ℕ} {lists₀ : Lists} (e : p.points ≡ n) (h : 
           is = all_given;
         }
 
-    pub given_swept : run.ended ≡ false → Swept p room lists₀ run.lines lists work
+    pub given_swept : ended_of run ≡ false → Swept p room lists₀ (lines_of run) lists work
     given_swept t =
         record {
           times = 0;

@@ -1,23 +1,18 @@
 -- The parts worked through: what is kept from step to step, and what is left at the end. Assumes nothing.
 use mathlib.Core.Path.{◌≡◌, refl, sym, ap, subst, ◌∙◌}
 use mathlib.Core.Logic.{◌≢◌, inl, inr, ⊎_elim}
-use mathlib.Core.Bool.{Bool, true, false, cond, true≢false, ◌&&◌}
-use mathlib.Core.List.{List, ◌∷◌}
+use mathlib.Core.Bool.{true, false, true≢false}
+use Rattle.std.specs.Prelude.{Option, Some, None, IfSome, is_some}
+use mathlib.Core.List.{List}
 use Prim.Native.Nat.{ℕ, zero, suc, ◌+◌, ◌*◌, ◌-◌, ◌≤◌, ◌<◌}
 use native.Mathlib.Nat.{eq-or-lt_of_le}
 use native.Mathlib.Numerals.{add-one}
 use native.Mathlib.Omega.{arith}
-use lib.Dec.{eqb}
 use lib.ListN.{length}
-use lib.IntN.{ℤ, pos}
-use lib.Signed.{lt_z}
-use borrow.Author.Tests.{eqb-false, ne_eqb, eq-eqb}
-use Rattle.whole.proofs.Order.{ints}
+use lib.IntN.{ℤ}
 use Rattle.rules.specs.Plan.{Plan}
-use Rattle.rules.specs.Cells.{Cell, num}
 use Rattle.rules.specs.Calls.{Kept}
-use Rattle.cell.specs.Steps.{adding, roomy, cell64, belowᶜ}
-use Rattle.cell.proofs.CellMethods.{number_is}
+use Rattle.cell.specs.Steps.{roomy}
 use Rattle.chain.specs.Lines.{Line}
 use Rattle.chain.specs.Reasons.{ended, each}
 use Rattle.chain.specs.Places.{Steps, pass, part}
@@ -28,11 +23,11 @@ use Rattle.offers.specs.Work.{Holds, Standing, Known}
 use Rattle.offers.specs.Drafts.{made_of, added, Notable}
 use Rattle.reasons.specs.declared.Place.{Place}
 use Rattle.reasons.specs.declared.Step.{Step}
-use Rattle.reasons.specs.declared.Run.{Run}
+use Rattle.std.specs.declared.ops.ControlFlow.{ControlFlow}
 use Rattle.reasons.specs.Stands.{steps_of, outer, middle, inner, through, after, Placed, TryLeft}
 use Rattle.reasons.specs.Stepping.{GoesOn, within, beyond, Stepped}
-use Rattle.reasons.specs.Notes.{taken_count, taken_work, taken_lists, closes_of, note_line, set_line, laid}
-use Rattle.reasons.specs.Working.{Fine, Begun, Begins, Left}
+use Rattle.reasons.specs.Notes.{taken_count, taken_work, taken_lists, closes_of, laid}
+use Rattle.reasons.specs.Working.{Fine, Begun, Begins, Left, lines_of, ended_of}
 use Rattle.reasons.proofs.NoteLaws.{noted, note_beyond}
 
 -- ---- once the list has ended
@@ -99,13 +94,9 @@ kept_trans a b = record { length_same = b.length_same ∙ a.length_same; beyond_
 pub kept_refl : (room : ℕ) (t : List ℤ) → Kept room t t
 kept_refl room t = record { length_same = refl; beyond_same = λ i h. refl }
 
-pub taken_kept : (n : ℕ) (d : Draft) (i : ℕ) (work : List ℤ) → d.from < n → d.to < n → Kept (4 * (n * n)) work (taken_work n d i work)
-unfolding taken_work
-taken_kept n d i work hf ht = by (eqb d.kind 0)
-  where
-    by : (b : Bool) → Kept (4 * (n * n)) work (cond b work (note_line n (made_of d) i work))
-    by true = kept_refl (4 * (n * n)) work
-    by false = note_beyond n (made_of d) i work hf ht
+pub taken_kept : (n : ℕ) (d : Option Draft) (i : ℕ) (work : List ℤ) → IfSome d (Notable n) → Kept (4 * (n * n)) work (taken_work n d i work)
+taken_kept n None i work note = kept_refl (4 * (n * n)) work
+taken_kept n (Some d) i work note = note_beyond n (made_of d) i work note.from note.to
 
 -- ---- one draft taken
 
@@ -115,53 +106,29 @@ pub record Holding (n room : ℕ) (ls : List Line) (first : Lists) (count : ℕ)
   pub counted : count ≡ length ls
   pub are : lists ≡ laid room ls first
 
-module _ {n room : ℕ} {ls : List Line} {first lists : Lists} {count : ℕ} {work : List ℤ} (h : Holding n room ls first count lists work) (d : Draft) (note : Notable n d)
-    (near : d.kind ≢ 0 → Fine n ls) where
-  pub taken_holding : Holding n room (added d ls) first (taken_count d count) (taken_lists room d count lists) (taken_work n d count work)
-  unfolding taken_work taken_lists laid
-  taken_holding = by (eqb d.kind 0) refl
-    where
-      by : (b : Bool) → eqb d.kind 0 ≡ b
-          → Holding n room (cond b ls (made_of d ∷ ls)) first (cond b count (count + 1)) (cond b lists (set_line room count (made_of d) lists))
-          (cond b work (note_line n (made_of d) count work))
-      by true e = h
-      by false e =
-          record {
-            holds = rw h.counted (noted n (made_of d) ls work note.from note.to note.number (near (eqb-false d.kind 0 e)).near h.holds);
-            counted = rw (add-one count) (ap suc h.counted);
-            are = rw (h.counted, h.are);
-          }
+some_line : {d : Draft} → Some d ≢ None
+some_line e = true≢false (ap is_some e)
+
+pub taken_holding : {n room : ℕ} {ls : List Line} {first lists : Lists} {count : ℕ} {work : List ℤ} → Holding n room ls first count lists work → (d : Option Draft)
+    → IfSome d (Notable n) → (d ≢ None → Fine n ls)
+    → Holding n room (added d ls) first (taken_count d count) (taken_lists room d count lists) (taken_work n d count work)
+unfolding laid
+taken_holding h None note near = h
+taken_holding {n} {room} {ls} {first} {lists} {count} {work} h (Some d) note near =
+    record {
+      holds = rw h.counted (noted n (made_of d) ls work note.from note.to note.number (near some_line).near h.holds);
+      counted = rw (add-one count) (ap suc h.counted);
+      are = rw (h.counted, h.are);
+    }
 
 -- no line closes nothing
-pub closes_none : (d : Draft) → d.kind ≡ 0 → closes_of d ≡ false
-unfolding closes_of
+closes_none : (d : Option Draft) → d ≡ None → closes_of d ≡ false
 closes_none d z = rw z
 
--- nor does one to another point
-pub closes_other : (d : Draft) → d.from ≢ d.to → closes_of d ≡ false
-unfolding closes_of
-closes_other d n = by (eqb d.kind 0)
-  where
-    by : (b : Bool) → cond b false (eqb d.from d.to && lt_z d.weight (pos 0)) ≡ false
-    by true = refl
-    by false = rw (ne_eqb d.from d.to n)
-
--- else its weight says it
-pub closes_weight : (d : Draft) (z : ℤ) {t : Bool} → d.kind ≢ 0 → d.from ≡ d.to → cell64 d.weight ≡ num d.weight → z ≡ pos 0
-    → t ≡ belowᶜ (cell64 d.weight) (cell64 z) → t ≡ closes_of d
-unfolding closes_of adding
-closes_weight d z k e n q t =
-    rw (ne_eqb d.kind 0 k, eq-eqb d.from d.to e)
-    (t ∙ ap (λ (c : Cell). belowᶜ c (cell64 z)) n ∙ ap (λ (c : Cell). belowᶜ (num d.weight) c) (ap cell64 q ∙ number_is adding.mark (pos 0) (omega ints)))
-
 -- whether the list has ended then
-pub closes_is : (d : Draft) (ls : List Line) → ended ls ≡ false → ended (added d ls) ≡ closes_of d
-unfolding closes_of
-closes_is d ls g = by (eqb d.kind 0)
-  where
-    by : (b : Bool) → ended (cond b ls (made_of d ∷ ls)) ≡ cond b false (eqb d.from d.to && lt_z d.weight (pos 0))
-    by true = g
-    by false = refl
+pub closes_is : (d : Option Draft) (ls : List Line) → ended ls ≡ false → ended (added d ls) ≡ closes_of d
+closes_is None ls g = g
+closes_is (Some d) ls g = refl
 
 -- ---- from step to step
 
@@ -221,7 +188,7 @@ module _ (p : Plan) (g from until room count₀ : ℕ) (lists₀ : Lists) (work�
 
     module _ {r : Step} (step : Stepped p g work at r) where
       -- a line only where a try was left
-      left_for : r.line.kind ≢ 0 → TryLeft p at × ((r.next.phase ≡ at.phase) × (r.next.a ≡ at.a) × (r.next.b ≡ at.b))
+      left_for : r.line ≢ None → TryLeft p at × ((r.next.phase ≡ at.phase) × (r.next.a ≡ at.a) × (r.next.b ≡ at.b))
       left_for ne = by step.goes
         where
           by : GoesOn p at r → TryLeft p at × ((r.next.phase ≡ at.phase) × (r.next.a ≡ at.a) × (r.next.b ≡ at.b))
@@ -230,7 +197,7 @@ module _ (p : Plan) (g from until room count₀ : ℕ) (lists₀ : Lists) (work�
           by (beyond z e) = absurd (ne z)
 
       -- it is not one too many
-      pub going_few : Begins p g from until room count₀ lists₀ work₀ → r.line.kind ≢ 0 → count < roomy.reach
+      pub going_few : Begins p g from until room count₀ lists₀ work₀ → r.line ≢ None → count < roomy.reach
       going_few b ne =
           let f = fine_at b.begun (left_for ne).0 in
           omega (arith, f.few, (q.stands b.base b.first b.begun).0.counted)
@@ -253,7 +220,7 @@ module _ (p : Plan) (g from until room count₀ : ℕ) (lists₀ : Lists) (work�
       next_ended {base} {first} b = ap ended (sym (next_is b)) ∙ closes_is r.line (after p g from at base) (q.stands base first b).1
 
       pub going_kept : Kept (4 * (p.points * p.points)) work₀ (taken_work p.points r.line count work)
-      going_kept = kept_trans q.kept (taken_kept p.points r.line count work step.notable.from step.notable.to)
+      going_kept = kept_trans q.kept (taken_kept p.points r.line count work step.notable)
 
       -- one step more
       pub going_more : closes_of r.line ≡ false
@@ -282,11 +249,11 @@ module _ (p : Plan) (g from until room count₀ : ℕ) (lists₀ : Lists) (work�
           fresh (beyond z f) h = (ap (λ (c : Place). c.a) f, ap (λ (c : Place). c.b) f, ap (λ (c : Place). c.c) f)
 
       -- the list has ended
-      pub going_ended : (run : Run) → run.lines ≡ taken_count r.line count → run.ended ≡ true → closes_of r.line ≡ true
+      pub going_ended : (run : ControlFlow ℕ ℕ) → lines_of run ≡ taken_count r.line count → ended_of run ≡ true → closes_of r.line ≡ true
           → (base : List Line) (first : Lists) → Begun p g from until room base first count₀ lists₀ work₀
           → Left p.points room (through p g from (until - from) base) first run (taken_lists room r.line count lists) (taken_work p.points r.line count work)
       going_ended run el ee e base first b =
-          let some : r.line.kind ≢ 0 = λ z. true≢false (sym e ∙ closes_none r.line z) in
+          let some : r.line ≢ None = λ z. true≢false (sym e ∙ closes_none r.line z) in
           let l = left_for some in
           let h = next_holding b in
           let all : through p g from (until - from) base ≡ after p g from r.next base =
@@ -302,7 +269,7 @@ module _ (p : Plan) (g from until room count₀ : ℕ) (lists₀ : Lists) (work�
 
   -- all the parts done
   module _ {at : Place} {count : ℕ} {lists : Lists} {work : List ℤ} (q : Going p g from until room count₀ lists₀ work₀ at count lists work) (hu : until ≤ at.phase) where
-    pub going_done : (run : Run) → run.lines ≡ count → run.ended ≡ false → (base : List Line) (first : Lists)
+    pub going_done : (run : ControlFlow ℕ ℕ) → lines_of run ≡ count → ended_of run ≡ false → (base : List Line) (first : Lists)
         → Begun p g from until room base first count₀ lists₀ work₀ → Left p.points room (through p g from (until - from) base) first run lists work
     unfolding after
     going_done run el ee base first b =
@@ -312,30 +279,10 @@ module _ (p : Plan) (g from until room count₀ : ℕ) (lists₀ : Lists) (work�
         let all : after p g from at base ≡ through p g from (until - from) base = rw (z.0, z.1, z.2, e) in
         rw (sym all) (record { holds = h.0.holds; counted = el ∙ h.0.counted; ends = ee ∙ sym h.1; are = h.0.are })
 
--- ---- a draft taken, as the code takes it
-
-module _ (n i : ℕ) (d : Draft) (work : List ℤ) where
-  pub work_none : d.kind ≡ 0 → work ≡ taken_work n d i work
-  unfolding taken_work
-  work_none z = rw z
-
-  pub work_some : {work' : List ℤ} → d.kind ≢ 0 → work' ≡ note_line n (made_of d) i work → work' ≡ taken_work n d i work
-  unfolding taken_work
-  work_some z e = rw (ne_eqb d.kind 0 z) e
-
-module _ (room i : ℕ) (d : Draft) (t : Lists) where
-  pub lists_none : d.kind ≡ 0 → t ≡ taken_lists room d i t
-  unfolding taken_lists
-  lists_none z = rw z
-
-  pub lists_some : {t' : Lists} → d.kind ≢ 0 → t' ≡ set_line room i (made_of d) t → t' ≡ taken_lists room d i t
-  unfolding taken_lists
-  lists_some z e = rw (ne_eqb d.kind 0 z) e
-
 -- ---- the same of a sound file of n points, as the code has it
 
-pub notable_here : {p : Plan} {n g : ℕ} {work : List ℤ} {at : Place} {r : Step} → p.points ≡ n → Stepped p g work at r → Notable n r.line
-notable_here {r} e step = subst (λ (c : ℕ). Notable c r.line) e step.notable
+pub notable_here : {p : Plan} {n g : ℕ} {work : List ℤ} {at : Place} {r : Step} → p.points ≡ n → Stepped p g work at r → IfSome r.line (Notable n)
+notable_here {r} e step = subst (λ (c : ℕ). IfSome r.line (Notable c)) e step.notable
 
 module _ {p : Plan} {n g from until room count₀ : ℕ} {lists₀ : Lists} {work₀ : List ℤ} (e : p.points ≡ n) where
   pub known_here : {at : Place} {count : ℕ} {lists : Lists} {work : List ℤ} → Going p g from until room count₀ lists₀ work₀ at count lists work → at.phase < until
@@ -355,12 +302,12 @@ module _ {p : Plan} {n g from until room count₀ : ℕ} {lists₀ : Lists} {wor
     pub kept_after : Kept (4 * (n * n)) work₀ work'
     kept_after = rw (ew, ← e) (going_kept p g from until room count₀ lists₀ work₀ q hu step)
 
-    pub ended_here : (run : Run) → run.lines ≡ count' → run.ended ≡ true → closes_of r.line ≡ true → (base : List Line) (first : Lists)
+    pub ended_here : (run : ControlFlow ℕ ℕ) → lines_of run ≡ count' → ended_of run ≡ true → closes_of r.line ≡ true → (base : List Line) (first : Lists)
         → Begun p g from until room base first count₀ lists₀ work₀ → Left n room (through p g from (until - from) base) first run lists' work'
     ended_here run l d c base first b =
         rw (ew, el, ← e) (going_ended p g from until room count₀ lists₀ work₀ q hu step run (l ∙ ec) d c base first b)
 
   pub done_here : {at : Place} {count : ℕ} {lists : Lists} {work : List ℤ} → Going p g from until room count₀ lists₀ work₀ at count lists work → until ≤ at.phase
-      → (run : Run) → run.lines ≡ count → run.ended ≡ false → (base : List Line) (first : Lists)
+      → (run : ControlFlow ℕ ℕ) → lines_of run ≡ count → ended_of run ≡ false → (base : List Line) (first : Lists)
       → Begun p g from until room base first count₀ lists₀ work₀ → Left n room (through p g from (until - from) base) first run lists work
   done_here q hu run l d base first b = rw (← e) (going_done p g from until room count₀ lists₀ work₀ q hu run l d base first b)

@@ -1,5 +1,5 @@
 -- A line noted in the work room and in the lent lists, as functions of lists. Assumes nothing.
-use Rattle.std.specs.Prelude.{Bool, false, cond, ◌&&◌, List, [], ◌∷◌, ℕ, suc, ◌+◌, ◌%◌, eqb, ltb, length, set, ℤ, pos}
+use Rattle.std.specs.Prelude.{Bool, false, cond, ◌&&◌, Option, Some, None, List, [], ◌∷◌, ℕ, suc, ◌+◌, ◌%◌, eqb, ltb, length, set, ℤ, pos}
 use Rattle.rules.specs.declared.Side.TheVariants.{Strict}
 use Rattle.cell.specs.Steps.{cell64, belowᶜ}
 use Rattle.chain.specs.Lines.{Line, counts}
@@ -44,19 +44,23 @@ set_line room i l t =
       seconds = set_at room i (word l.second) t.seconds;
     }
 
--- a draft taken: noted as line i, if it is a line
-abbrev pub taken_count : Draft → ℕ → ℕ
-taken_count d i = cond (eqb d.kind 0) i (i + 1)
+-- a draft taken: noted as line i, if there is one
+abbrev pub taken_count : Option Draft → ℕ → ℕ
+taken_count None i = i
+taken_count (Some d) i = i + 1
 
-unfoldable pub taken_work : ℕ → Draft → ℕ → List ℤ → List ℤ
-taken_work n d i work = cond (eqb d.kind 0) work (note_line n (made_of d) i work)
+abbrev pub taken_work : ℕ → Option Draft → ℕ → List ℤ → List ℤ
+taken_work n None i work = work
+taken_work n (Some d) i work = note_line n (made_of d) i work
 
-unfoldable pub taken_lists : ℕ → Draft → ℕ → Lists → Lists
-taken_lists room d i t = cond (eqb d.kind 0) t (set_line room i (made_of d) t)
+abbrev pub taken_lists : ℕ → Option Draft → ℕ → Lists → Lists
+taken_lists room None i t = t
+taken_lists room (Some d) i t = set_line room i (made_of d) t
 
 -- whether it closes below zero
-unfoldable pub closes_of : Draft → Bool
-closes_of d = cond (eqb d.kind 0) false (eqb d.from d.to && lt_z d.weight (pos 0))
+abbrev pub closes_of : Option Draft → Bool
+closes_of None = false
+closes_of (Some d) = eqb d.from d.to && lt_z d.weight (pos 0)
 
 -- the six lists as one
 abbrev pub columns : List ℕ → List ℕ → List ℕ → List ℤ → List ℕ → List ℕ → Lists

@@ -1,5 +1,7 @@
 -- What the working-out of a reason list begins with and what it leaves. Assumes nothing.
-use Rattle.std.specs.Prelude.{◌≡◌, false, List, ℕ, ◌≤◌, ◌<◌, length, ℤ}
+use Rattle.std.specs.Prelude.{◌≡◌, Bool, true, false, List, ℕ, ◌≤◌, ◌<◌, length, ℤ}
+use Rattle.std.specs.declared.ops.ControlFlow.{ControlFlow}
+use Rattle.std.specs.declared.ops.ControlFlow.TheVariants.{Continue, Break}
 use Rattle.rules.specs.declared.Side.{Side}
 use Rattle.rules.specs.declared.Side.TheVariants.{Strict}
 use Rattle.rules.specs.Plan.{Plan}
@@ -10,7 +12,6 @@ use Rattle.chain.specs.Reasons.{ended, sweeps, ReasonList}
 use Rattle.chain.specs.Call.{Lists}
 use Rattle.offers.specs.Work.{Holds}
 use Rattle.reasons.specs.declared.Place.{Place}
-use Rattle.reasons.specs.declared.Run.{Run}
 use Rattle.reasons.specs.Stands.{outer, middle, inner, after}
 use Rattle.reasons.specs.Notes.{laid}
 
@@ -40,11 +41,20 @@ pub record Begins (p : Plan) (g from until room count : ℕ) (lists : Lists) (wo
   pub first : Lists
   pub begun : Begun p g from until room base first count lists work
 
+-- how many lines were worked out, and whether that has ended the list: a run breaks off at the line that ends it
+abbrev pub lines_of : ControlFlow ℕ ℕ → ℕ
+lines_of (Continue lines) = lines
+lines_of (Break lines) = lines
+
+abbrev pub ended_of : ControlFlow ℕ ℕ → Bool
+ended_of (Continue lines) = false
+ended_of (Break lines) = true
+
 -- what is left of a list: how many lines, whether it has ended, the lines that there was room for, and the bests
-pub record Left (n room : ℕ) (ls : List Line) (first : Lists) (run : Run) (lists : Lists) (work : List ℤ) : Type 0 where
+pub record Left (n room : ℕ) (ls : List Line) (first : Lists) (run : ControlFlow ℕ ℕ) (lists : Lists) (work : List ℤ) : Type 0 where
   pub holds : Holds n ls work
-  pub counted : run.lines ≡ length ls
-  pub ends : run.ended ≡ ended ls
+  pub counted : lines_of run ≡ length ls
+  pub ends : ended_of run ≡ ended ls
   pub are : lists ≡ laid room ls first
 
 -- after so many sweeps, which have not ended the list
@@ -63,7 +73,7 @@ pub record Sweeping (p : Plan) (room count : ℕ) (lists : Lists) (work : List �
   pub swept : Swept p room first count lists work
 
 -- the whole list
-pub record Worked (p : Plan) (room : ℕ) (first : Lists) (run : Run) (lists : Lists) (work : List ℤ) : Type 0 where
+pub record Worked (p : Plan) (room : ℕ) (first : Lists) (run : ControlFlow ℕ ℕ) (lists : Lists) (work : List ℤ) : Type 0 where
   pub lines : List Line
   pub reasons : ReasonList p lines
   pub is : Left p.points room lines first run lists work

@@ -32,18 +32,11 @@ pub struct Place {
     pub c: u32,
 }
 
-// One step: a line, of kind 0 where there is none, and where it goes on.
+// One step: a line, if there is one, and where it goes on.
 #[derive(Clone, Copy)]
 pub struct Step {
-    pub line: Draft,
+    pub line: Option<Draft>,
     pub next: Place,
-}
-
-// What was worked out: how many lines, and whether the last one closes below zero.
-#[derive(Clone, Copy)]
-pub struct Run {
-    pub lines: u64,
-    pub ended: bool,
 }
 
 // The chain of reasons of a plan file, into six lent slices, with a lent work room. It is total: it takes any bytes and any slices.

@@ -9,6 +9,7 @@ use crate::lists::Lists;
 use crate::work::Work;
 use crate::working::run;
 use rules::{Answer, Refusal};
+use std::ops::ControlFlow;
 
 // The answer for a sound file, with work room enough. The first pass has no room, so it writes no line.
 pub fn listed(lists: &mut Lists<'_>, work: &mut Work<'_>) -> Answer
@@ -16,17 +17,16 @@ pub fn listed(lists: &mut Lists<'_>, work: &mut Work<'_>) -> Answer
     ensures same { SameLists lists.old lists.new × SameWork work.old work.new }
     ensures reasoned { Reasoned (file_answer work.old.plan.file.now) (plan_of work.old.plan.file.now) (lists_of lists.old) work.old.cells.now result (lists_of lists.new) work.new.cells.now }
 {
-    let counted = run(lists, work);
-    if !counted.ended {
+    let ControlFlow::Break(counted) = run(lists, work) else {
         work.clear(); // nothing is left of the work
         return Ok(());
-    }
+    };
     lists.room = lists.most();
-    if counted.lines > lists.room {
+    if counted > lists.room {
         work.clear();
         return Err(Refusal::ShortRoom);
     }
-    run(lists, work);
+    let _ = run(lists, work);
     work.clear();
-    Err(Refusal::ReasonsListed(counted.lines as u32))
+    Err(Refusal::ReasonsListed(counted as u32))
 }

@@ -43,7 +43,7 @@ impl Lists<'_> {
             return;
         }
         let i = at as usize;
-        self.kinds[i] = d.kind;
+        self.kinds[i] = d.kind.number();
         self.froms[i] = d.from;
         self.tos[i] = d.to;
         self.weights[i] = d.weight;

@@ -35,10 +35,9 @@ impl Work<'_> {
         ensures same { SameWork self.old self.new }
         ensures cells { self.new.cells.now ≡ note_strict self.old.plan.n (made_of d) line self.old.cells.now }
     {
-        if d.kind == 5 || d.kind == 9 {
-            return;
+        if d.kind.is_strict() {
+            self.note_pair(Side::Strict, d, line);
         }
-        self.note_pair(Side::Strict, d, line);
     }
 
     // In both tables.

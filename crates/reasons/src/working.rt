@@ -1,8 +1,7 @@
 // The working-out of a reason list, part by part.
-ghost use Rattle.std.specs.Prelude.{◌≡◌, ◌≢◌, List, ℕ, ◌*◌, ◌-◌, ◌≤◌, ◌<◌, length};
+ghost use Rattle.std.specs.Prelude.{◌≡◌, ◌≢◌, IfSome, List, ℕ, ◌*◌, ◌-◌, ◌≤◌, ◌<◌, length};
 ghost use Rattle.rules.specs.Calls.{Kept};
-ghost use Rattle.rules.specs.Cells.{num};
-ghost use Rattle.cell.specs.Steps.{cell64, roomy};
+ghost use Rattle.cell.specs.Steps.{roomy};
 ghost use Rattle.plan.specs.Layout.{plan_of};
 ghost use Rattle.chain.specs.Lines.{Line};
 ghost use Rattle.chain.specs.Reasons.{before_links, sweeps};
@@ -16,42 +15,38 @@ ghost use Rattle.reasons.specs.Working.{Begun, Begins, Left, Swept, Sweeping, Wo
 use crate::lists::Lists;
 use crate::stepping::step_at;
 use crate::work::Work;
-use crate::{Place, Run};
-use cell::Word;
+use crate::Place;
 use offers::Draft;
+use std::ops::ControlFlow;
 
-// Whether a draft is a line that closes below zero.
-fn closes(d: Draft) -> bool
-    requires { cell64 d.weight ≡ num d.weight }
+// Whether there is a line that closes below zero.
+fn closes(d: Option<Draft>) -> bool
     ensures { result ≡ closes_of d }
 {
-    if d.kind == 0 {
-        return false;
+    match d {
+        Some(d) => d.from == d.to && d.weight < 0,
+        None => false,
     }
-    if d.from != d.to {
-        return false;
-    }
-    let weight = d.weight;
-    weight.below(0)
 }
 
-// A draft taken: noted as the next line, if it is one. How many lines there are then.
-fn take(lists: &mut Lists<'_>, work: &mut Work<'_>, lines: u64, d: Draft) -> u64
-    requires { Notable work.old.plan.n d × (d.kind ≢ 0 → lines < roomy.reach) }
+// A draft taken: noted as the next line, if there is one. How many lines there are then.
+fn take(lists: &mut Lists<'_>, work: &mut Work<'_>, lines: u64, d: Option<Draft>) -> u64
+    requires { IfSome d (Notable work.old.plan.n) × (d ≢ None → lines < roomy.reach) }
     ensures same { SameLists lists.old lists.new × (lists.new.room ≡ lists.old.room) × SameWork work.old work.new }
     ensures lines { result ≡ taken_count d lines }
     ensures cells { work.new.cells.now ≡ taken_work work.old.plan.n d lines work.old.cells.now }
     ensures lists { lists_of lists.new ≡ taken_lists lists.old.room d lines (lists_of lists.old) }
 {
-    if d.kind == 0 {
+    let Some(line) = d else {
         return lines;
-    }
-    work.note_line(d, lines);
-    lists.set_line(lines, d);
+    };
+    work.note_line(line, lines);
+    lists.set_line(lines, line);
     lines + 1
 }
 
-// The parts from one on and before another, of a list that has not ended, with g lines before those of the links.
+// The parts from one on and before another, of a list that has not ended, with g lines before those of the links. It breaks off at a line that ends the list; either
+// way it says how many lines there are then.
 fn work_through(
     lists: &mut Lists<'_>,
     work: &mut Work<'_>,
@@ -59,7 +54,7 @@ fn work_through(
     from: u32,
     until: u32,
     count: u64,
-) -> Run
+) -> ControlFlow<u64, u64>
     requires { (g ≤ 4096) × (from ≤ until) × (until ≤ 7) × Begins (plan_of work.old.plan.file.now) g from until lists.old.room count (lists_of lists.old) work.old.cells.now }
     ensures same { SameLists lists.old lists.new × (lists.new.room ≡ lists.old.room) × SameWork work.old work.new }
     ensures kept { Kept (4 * (work.old.plan.n * work.old.plan.n)) work.old.cells.now work.new.cells.now }
@@ -74,21 +69,17 @@ fn work_through(
     let mut lines = count;
     while at.phase < until {
         let step = step_at(work.bests(), g, at);
-        let line = step.line;
-        lines = take(lists, work, lines, line);
-        if closes(line) {
-            return Run { lines, ended: true };
+        lines = take(lists, work, lines, step.line);
+        if closes(step.line) {
+            return ControlFlow::Break(lines);
         }
         at = step.next;
     }
-    Run {
-        lines,
-        ended: false,
-    }
+    ControlFlow::Continue(lines)
 }
 
 // Sweeps, until one adds nothing or ends the list.
-fn sweep_on(lists: &mut Lists<'_>, work: &mut Work<'_>, g: u64, count: u64) -> Run
+fn sweep_on(lists: &mut Lists<'_>, work: &mut Work<'_>, g: u64, count: u64) -> ControlFlow<u64, u64>
     requires { (g ≡ length (before_links (plan_of work.old.plan.file.now))) × Sweeping (plan_of work.old.plan.file.now) lists.old.room count (lists_of lists.old) work.old.cells.now }
     ensures same { SameLists lists.old lists.new × (lists.new.room ≡ lists.old.room) × SameWork work.old work.new }
     ensures kept { Kept (4 * (work.old.plan.n * work.old.plan.n)) work.old.cells.now work.new.cells.now }
@@ -96,31 +87,22 @@ fn sweep_on(lists: &mut Lists<'_>, work: &mut Work<'_>, g: u64, count: u64) -> R
 {
     let mut lines = count;
     loop {
-        let swept = work_through(lists, work, g, 3, 7, lines);
-        if swept.ended {
-            return swept;
+        let swept = work_through(lists, work, g, 3, 7, lines)?;
+        if swept == lines {
+            return ControlFlow::Continue(lines);
         }
-        if swept.lines == lines {
-            return swept;
-        }
-        lines = swept.lines;
+        lines = swept;
     }
 }
 
 // The whole list, from the start.
-pub fn run(lists: &mut Lists<'_>, work: &mut Work<'_>) -> Run
+pub fn run(lists: &mut Lists<'_>, work: &mut Work<'_>) -> ControlFlow<u64, u64>
     ensures same { SameLists lists.old lists.new × (lists.new.room ≡ lists.old.room) × SameWork work.old work.new }
     ensures kept { Kept (4 * (work.old.plan.n * work.old.plan.n)) work.old.cells.now work.new.cells.now }
     ensures worked { Worked (plan_of work.old.plan.file.now) lists.old.room (lists_of lists.old) result (lists_of lists.new) work.new.cells.now }
 {
     work.begin();
-    let before = work_through(lists, work, 0, 0, 2, 0);
-    if before.ended {
-        return before;
-    }
-    let given = work_through(lists, work, 0, 2, 3, before.lines);
-    if given.ended {
-        return given;
-    }
-    sweep_on(lists, work, before.lines, given.lines)
+    let before = work_through(lists, work, 0, 0, 2, 0)?;
+    let given = work_through(lists, work, 0, 2, 3, before)?;
+    sweep_on(lists, work, before, given)
 }

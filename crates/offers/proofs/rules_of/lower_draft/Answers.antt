@@ -1,14 +1,9 @@
 -- Nothing for a link's own contingent point or where Lower yields none, else its line. Assumes nothing.
-use Rattle.offers.proofs.Common.{rules, arith, ◌≡◌, w64, to_z, of_z, refl, Strict, link_of, link_read, spans_fit, spread_is, near_read, mark-read, no_mark, adding, nothing_plain, lower_own, lower_none, lower_some}
+use Rattle.offers.proofs.Common.{rules, arith, ◌≡◌, w64, to_z, of_z, refl, Strict, link_of, link_read, spans_fit, spread_is, near_read, mark-read, no_mark, adding, lower_own, lower_none, lower_some}
 use Rattle.offers.proofs.rules_of.lower_draft.Goals as goal
 
 pub returns-then-b-a : goal.returns-then-b-a
-returns-then-b-a c =
-    let a = link_read c.args.work.plan.ready c.args.i c.requires.0 c.link-a.ensures in (
-      rw (← c.link-a.ensures, ← c.link-b.ensures)
-          (lower_own _ _ _ (link_of c.link-a.result) (link_of c.link-b.result) c.no_draft.result c.if-b-a.true c.no_draft.ensures.kind),
-      nothing_plain a.act c.no_draft.ensures,
-    )
+returns-then-b-a c = (rw (← c.link-a.ensures, ← c.link-b.ensures) (lower_own _ _ _ (link_of c.link-a.result) (link_of c.link-b.result) c.if-b-a.true), tt)
 
 pub weight-requires : goal.weight-requires
 weight-requires c = (
@@ -28,15 +23,15 @@ lower-w-requires c =
 
 pub returns-then-is_mark : goal.returns-then-is_mark
 returns-then-is_mark c =
-    let read : to_z w64 (of_z w64 c.weight.result) ≡ c.weight.result = search rules in
-    let same : to_z w64 (of_z w64 c.lower-w.result) ≡ c.lower-w.result = search rules in
     let a = link_read c.args.work.plan.ready c.args.i c.requires.0 c.link-a.ensures in
     let b = link_read c.args.work.plan.ready c.args.j c.requires.1 c.link-b.ensures in
+    let read : to_z w64 (of_z w64 c.weight.result) ≡ c.weight.result = search rules in
+    let same : to_z w64 (of_z w64 c.lower-w.result) ≡ c.lower-w.result = search rules in
     let yielded = rw read at (c.lower-w.ensures (link_of c.link-a.result) (link_of c.link-b.result) refl (spread_is (link_of c.link-b.result) b.order)) in (
       rw (← c.link-a.ensures, ← c.link-b.ensures)
           (lower_none _ _ _ (link_of c.link-a.result) (link_of c.link-b.result) c.if-b-a.false a.con b.con _ _ c.weight.ensures yielded
-          c.no_draft-then-is_mark.result (mark-read (rw same at c.is_mark.ensures) c.if-is_mark.true) c.no_draft-then-is_mark.ensures.kind),
-      nothing_plain a.act c.no_draft-then-is_mark.ensures,
+          (mark-read (rw same at c.is_mark.ensures) c.if-is_mark.true)),
+      tt,
     )
 
 pub line-requires : goal.line-requires

@@ -1,12 +1,9 @@
 -- Nothing for a link's own contingent point or where there is no line to it, else its line. Assumes nothing.
-use Rattle.offers.proofs.Common.{rules, ◌≡◌, w64, to_z, of_z, refl, Strict, link_of, link_read, spans_fit, near_read, mark-read, no_mark, adding, nothing_plain, upper_own, upper_none, upper_some}
+use Rattle.offers.proofs.Common.{rules, ◌≡◌, w64, to_z, of_z, refl, Strict, link_of, link_read, spans_fit, near_read, mark-read, no_mark, adding, upper_own, upper_none, upper_some}
 use Rattle.offers.proofs.rules_of.upper_draft.Goals as goal
 
 pub returns-then-x-a : goal.returns-then-x-a
-returns-then-x-a c = (
-  rw (← c.link-a.ensures) (upper_own _ _ _ c.args.x (link_of c.link-a.result) c.no_draft.result c.if-x-a.true c.no_draft.ensures.kind),
-  nothing_plain c.requires.0 c.no_draft.ensures,
-)
+returns-then-x-a c = (rw (← c.link-a.ensures) (upper_own _ _ _ c.args.x (link_of c.link-a.result) c.if-x-a.true), tt)
 
 pub weight-requires : goal.weight-requires
 weight-requires c = (c.requires.0, (link_read c.args.work.plan.ready c.args.i c.requires.1 c.link-a.ensures).con)
@@ -19,13 +16,13 @@ upper-w-requires c =
 
 pub returns-then-is_mark : goal.returns-then-is_mark
 returns-then-is_mark c =
+    let a = link_read c.args.work.plan.ready c.args.i c.requires.1 c.link-a.ensures in
     let read : to_z w64 (of_z w64 c.weight.result) ≡ c.weight.result = search rules in
-    let same : to_z w64 (of_z w64 c.upper-w.result) ≡ c.upper-w.result = search rules in
-    let a = link_read c.args.work.plan.ready c.args.i c.requires.1 c.link-a.ensures in (
+    let same : to_z w64 (of_z w64 c.upper-w.result) ≡ c.upper-w.result = search rules in (
       rw (← c.link-a.ensures)
-          (upper_none _ _ _ c.args.x (link_of c.link-a.result) c.if-x-a.false c.requires.0 a.con _ _ c.weight.ensures (rw read at (c.upper-w.ensures (link_of c.link-a.result) refl refl))
-          c.no_draft-then-is_mark.result (mark-read (rw same at c.is_mark.ensures) c.if-is_mark.true) c.no_draft-then-is_mark.ensures.kind),
-      nothing_plain c.requires.0 c.no_draft-then-is_mark.ensures,
+          (upper_none _ _ _ c.args.x (link_of c.link-a.result) c.if-x-a.false c.requires.0 a.con _ _ c.weight.ensures
+          (rw read at (c.upper-w.ensures (link_of c.link-a.result) refl refl)) (mark-read (rw same at c.is_mark.ensures) c.if-is_mark.true)),
+      tt,
     )
 
 pub line-requires : goal.line-requires

@@ -1,23 +1,23 @@
 -- The end of the row, or the next join. Assumes nothing.
 use Rattle.lowering.proofs.Laws.LinksAsRead.{few}
-use Rattle.reasons.proofs.StepLaws.{join_none_left, join_one_left, joins_kind}
+use Rattle.offers.specs.Kinds.{kind_number}
+use Rattle.reasons.proofs.StepLaws.{join_none_left, join_one_left}
 use Rattle.reasons.proofs.stepping.join_step.Goals as goal
 
 pub join_draft-requires : goal.join_draft-requires
 join_draft-requires c =
     let q = c.requires in
-    (q.1, q.0, c.in-Some.ensures.to, joins_kind q.4, q.3, c.in-Some.ensures.lowers)
+    (q.1, q.0, c.in-Some.ensures.to, q.3, c.in-Some.ensures.lowers)
 
 pub returns-in-Some : goal.returns-in-Some
 returns-in-Some c p g e =
     let a = c.args in
     let q = c.requires in
-    join_one_left p g a.work.plan.n a.work.cells.now a.side a.kind a.at e q.4 q.0 q.1 q.2 (few a.work.plan.ready) c.join_draft.result c.in-Some.z
+    join_one_left p g a.work.plan.n a.work.cells.now a.side (kind_number a.kind) a.at e q.4 q.0 q.1 q.2 (few a.work.plan.ready) c.join_draft.result c.in-Some.z
     c.in-Some.ensures c.join_draft.ensures.0 c.join_draft.ensures.1
 
 pub returns-in-None : goal.returns-in-None
 returns-in-None c p g e =
     let a = c.args in
     let q = c.requires in
-    join_none_left p g a.work.plan.n a.work.cells.now a.side a.kind a.at e q.4 q.0 q.1 q.2 (few a.work.plan.ready) c.no_draft.result c.in-None.ensures
-    c.no_draft.ensures
+    join_none_left p g a.work.plan.n a.work.cells.now a.side (kind_number a.kind) a.at e q.4 q.0 q.1 q.2 (few a.work.plan.ready) c.in-None.ensures

@@ -3,7 +3,7 @@ use Rattle.std.proofs.Common.{refl, arith}
 use Rattle.plan.specs.Layout.{plan_of}
 use Rattle.lowering.proofs.Laws.ReadyFile.{ready_points}
 use Rattle.reasons.specs.Stepping.{strict, weak}
-use Rattle.reasons.proofs.PlaceLaws.{outer_is, middle_is, inner_is, inner_most, bounded, placed_most, some_point, try_before}
+use Rattle.reasons.proofs.PlaceLaws.{outer_is, middle_is, inner_is, inner_most, bounded, placed_most, try_before}
 use Rattle.reasons.proofs.StepLaws.{part_through, middle_through, inner_through, try_left}
 use Rattle.reasons.proofs.stepping.step_at.Goals as goal
 
@@ -13,7 +13,7 @@ returns-then-at-outer c =
     let p = a.work.plan in
     let most = placed_most p.ready c.requires.1 in
     let is = outer_is p.file.now p.n p.m p.k p.ready a.at.phase in
-    part_through (plan_of p.file.now) a.g a.work.cells.now a.at c.no_draft.result c.requires.1 c.no_draft.ensures (some_point p.ready) c.requires.0
+    part_through (plan_of p.file.now) a.g a.work.cells.now a.at c.requires.1 c.requires.0
     most.0 most.1 most.2 (omega (arith, is, c.outer.ensures, c.if-at-outer.true))
 
 pub returns-then-at-middle : goal.returns-then-at-middle
@@ -23,7 +23,7 @@ returns-then-at-middle c =
     let most = placed_most p.ready c.requires.1 in
     let turns = outer_is p.file.now p.n p.m p.k p.ready a.at.phase in
     let rows = middle_is p.file.now p.n p.m p.k p.ready a.at.phase in
-    middle_through (plan_of p.file.now) a.g a.work.cells.now a.at c.no_draft-then-at-middle.result c.requires.1 c.no_draft-then-at-middle.ensures (some_point p.ready)
+    middle_through (plan_of p.file.now) a.g a.work.cells.now a.at c.requires.1
     most.0 most.1 most.2 (omega (arith, turns, c.outer.ensures, c.if-at-outer.false)) (omega (arith, rows, c.middle.ensures, c.if-at-middle.true))
 
 pub returns-then-at-inner : goal.returns-then-at-inner
@@ -34,7 +34,7 @@ returns-then-at-inner c =
     let turns = outer_is p.file.now p.n p.m p.k p.ready a.at.phase in
     let rows = middle_is p.file.now p.n p.m p.k p.ready a.at.phase in
     let columns = inner_is p.file.now p.n p.m p.k p.ready a.at.phase in
-    inner_through (plan_of p.file.now) a.g a.work.cells.now a.at c.no_draft-then-at-inner.result c.requires.1 c.no_draft-then-at-inner.ensures (some_point p.ready)
+    inner_through (plan_of p.file.now) a.g a.work.cells.now a.at c.requires.1
     most.1 most.2 (omega (arith, turns, c.outer.ensures, c.if-at-outer.false)) (omega (arith, rows, c.middle.ensures, c.if-at-middle.false))
     (omega (arith, columns, c.inner.ensures, c.if-at-inner.true))
 

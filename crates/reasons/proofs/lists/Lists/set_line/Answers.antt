@@ -14,4 +14,4 @@ returns-then-at-self-clause-lists c = sym (set_out c.args.self.now.room c.args.a
 pub returns-clause-lists : goal.returns-clause-lists
 returns-clause-lists c =
     let fits : to_z w64 (of_z w64 c.args.d.weight) ≡ c.args.d.weight = search rules in
-    rw fits (sym (set_in c.args.self.now.room c.args.at (made_of c.args.d) (lists_of c.args.self.now) c.if-at-self.false))
+    rw (fits, c.number.ensures) (sym (set_in c.args.self.now.room c.args.at (made_of c.args.d) (lists_of c.args.self.now) c.if-at-self.false))
