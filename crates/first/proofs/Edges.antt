@@ -41,5 +41,5 @@ edges_taken {w = w} {t} {u} {v} a long short el es k l =
       same_list = l.same_list ∙ k.same_list;
       same_size = l.same_size ∙ k.same_size;
       cells =
-        edges_are w.ranges t.n a (w.values t.cells.now) (w.values u.cells.now) (w.values v.cells.now) long short el es k.cells (l.cells ∙ again);
+          edges_are w.ranges t.n a (w.values t.cells.now) (w.values u.cells.now) (w.values v.cells.now) long short el es k.cells (l.cells ∙ again);
     }

@@ -19,11 +19,11 @@ pub use faces::{
     post_add, post_check, post_earliest, post_judge, post_reasons, post_rests, post_sound,
     post_write,
 };
-use judging::lent;
 pub use judging::judge;
+use judging::lent;
 pub use plan::sound;
-use rules::{Answer, Refusal};
 pub use rules::Side;
+use rules::{Answer, Refusal};
 pub use timing::earliest;
 pub use word_faces::{post_both, post_bounded, post_reach, post_reach_add};
 pub use writing::write;

@@ -11,12 +11,7 @@ use rules::{Answer, Refusal};
 use tables::times_all;
 
 // Earliest of a plan without links, with room: Judge, and the times where it is done.
-fn timed(
-    plan: SoundPlan,
-    strict: &mut [i32],
-    open: &mut [i32],
-    times: &mut [i32],
-) -> Answer
+fn timed(plan: SoundPlan, strict: &mut [i32], open: &mut [i32], times: &mut [i32]) -> Answer
     requires { (plan.k ≡ 0) × (plan.n * plan.n ≤ length strict.old) × (plan.n * plan.n ≤ length «open».old) × (plan.n ≤ length times.old) }
     ensures { Timed version1 (file_answer plan.entry.file.now) (plan_of plan.entry.file.now) strict.old «open».old times.old result strict.new «open».new times.new }
 {

@@ -2,8 +2,8 @@
 // counts the lines, a second one writes them: a line past the room is not written, and the first pass is given none.
 #![tactic(auto)]
 
-mod lists;
 mod listing;
+mod lists;
 mod notes;
 mod places;
 mod starting;

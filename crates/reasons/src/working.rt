@@ -12,10 +12,10 @@ ghost use Rattle.reasons.specs.Notes.{taken_count, taken_work, taken_lists, clos
 ghost use Rattle.reasons.specs.Lent.{lists_of, SameLists, SameWork};
 ghost use Rattle.reasons.specs.Working.{Begun, Begins, Left, Swept, Sweeping, Worked};
 
+use crate::Place;
 use crate::lists::Lists;
 use crate::stepping::step_at;
 use crate::work::Work;
-use crate::Place;
 use offers::Draft;
 use std::ops::ControlFlow;
 

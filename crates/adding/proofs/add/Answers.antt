@@ -28,7 +28,7 @@ returns-then-strict-room c =
     let said = rw (back c.ranges.w) at c.sound_with.ensures in
     let none = short _ _ _ _ _ (sym said ∙ c.in_ok-sound_with.was) (ready_of c.known-plan.result c.known-plan.ensures) in
     elim c.then-strict-room.branch [
-      then-strict-room-via-then-strict-room w ↦ none (inl w.if-strict-room.true)
+      | then-strict-room-via-then-strict-room w ↦ none (inl w.if-strict-room.true)
       | then-strict-room-via-else-strict-room+then-open-room w ↦ none (inr (inl w.if-open-room.true))
       | then-strict-room-via-else-strict-room+else-open-room+then-cells-room w ↦ none (inr (inr w.if-cells-room.true))
     ]

@@ -9,7 +9,8 @@ pub returns : goal.returns
 returns c =
     let a = link_read c.args.plan.ready c.args.i c.requires c.link-a.ensures in
     let same : to_z w64 (of_z w64 c.of.result) ≡ c.of.result = search rules in
-    rw same
-    (lower_case_made c.args.i (link_of c.link-a.result) _ c.of.result c.link-a.ensures c.of.ensures,
-    record { from = a.act; to = a.con; number = span_number (spans_fit a).short c.of.ensures },
-    refl)
+    rw same (
+      lower_case_made c.args.i (link_of c.link-a.result) _ c.of.result c.link-a.ensures c.of.ensures,
+      record { from = a.act; to = a.con; number = span_number (spans_fit a).short c.of.ensures },
+      refl,
+    )

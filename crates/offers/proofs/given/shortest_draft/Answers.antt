@@ -17,7 +17,8 @@ returns c =
     let of_same : to_z w64 (of_z w64 c.of.result) ≡ c.of.result = search rules in
     let same : to_z w64 (of_z w64 c.negated.result) ≡ c.negated.result = search rules in
     let v = (rw of_same at c.negated.ensures) ∙ ap neg_ℤ c.of.ensures in
-    rw same
-    (shortest_made c.args.i (link_of c.link-a.result) _ c.negated.result c.link-a.ensures v,
-    record { from = a.con; to = a.act; number = negated_number c.link-a.result.short v },
-    refl)
+    rw same (
+      shortest_made c.args.i (link_of c.link-a.result) _ c.negated.result c.link-a.ensures v,
+      record { from = a.con; to = a.act; number = negated_number c.link-a.result.short v },
+      refl,
+    )

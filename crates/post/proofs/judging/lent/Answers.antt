@@ -17,9 +17,9 @@ pub overflow_mul-cells : goal.overflow_mul-cells
 overflow_mul-cells c = omega (arith, square_le (few c.in_ok-plan.plan.ready))
 
 pub returns-then-strict-cells : goal.returns-then-strict-cells
-returns-then-strict-cells c = 
+returns-then-strict-cells c =
     elim c.then-strict-cells.either [
-      inl l ↦ lent_short (ready_of c.in_ok-plan.plan c.in_ok-plan.ensures) (inl l)
+      | inl l ↦ lent_short (ready_of c.in_ok-plan.plan c.in_ok-plan.ensures) (inl l)
       | inr l ↦ lent_short (ready_of c.in_ok-plan.plan c.in_ok-plan.ensures) (inr l.1)
     ]
 

@@ -13,10 +13,10 @@ returns-in_err-judge c =
 
 pub times_all-requires : goal.times_all-requires
 times_all-requires c = (
-      few c.args.plan.ready,
-      written_sound _ _ _ _ c.args.plan.ready c.requires.0 _ _ c.args.times.now c.requires.1 c.requires.2 c.requires.3 (written_of c.in_ok-judge.ensures refl),
-      c.requires.3,
-    )
+  few c.args.plan.ready,
+  written_sound _ _ _ _ c.args.plan.ready c.requires.0 _ _ c.args.times.now c.requires.1 c.requires.2 c.requires.3 (written_of c.in_ok-judge.ensures refl),
+  c.requires.3,
+)
 
 pub returns : goal.returns
 returns c =

@@ -31,9 +31,10 @@ take-lines-requires c =
     let e = ready_points p.file.now p.n p.m p.k p.ready in
     let q = c.loop-at.invariant in
     let step = rw (c.bests.ensures.0, c.bests.ensures.1, q.work_same.plan) at c.step_at-step.ensures in
-    rw q.work_same.plan
-    (notable_here e step,
-    going_few (plan_of p.file.now) a.g a.from a.until a.lists.now.room a.count _ a.work.now.cells.now q.going c.loop-at-test.true step c.requires.3)
+    rw q.work_same.plan (
+      notable_here e step,
+      going_few (plan_of p.file.now) a.g a.from a.until a.lists.now.room a.count _ a.work.now.cells.now q.going c.loop-at-test.true step c.requires.3,
+    )
 
 pub returns-then-closes-clause-kept : goal.returns-then-closes-clause-kept
 returns-then-closes-clause-kept c =
