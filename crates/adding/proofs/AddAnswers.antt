@@ -16,8 +16,8 @@ use Rattle.rules.specs.Additions.{with_cells}
 use Rattle.rules.specs.Calls as calls
 use Rattle.rules.specs.Calls.{Added, Kept, Filled, RoomForTables, scratch_of}
 use Rattle.rules.specs.declared.Refusal.{Refusal}
-use Rattle.plan.specs.Layout.{head_of, link_at, plan_of}
-use Rattle.plan.specs.File.{file_answer, add_answer}
+use Rattle.plan.specs.Layout.{link_at, plan_of}
+use Rattle.plan.specs.File.{add_answer}
 use Rattle.plan.proofs.SoundFile.{add_exactly}
 use Rattle.answers.proofs.CodeZero.{not_done}
 use Rattle.cell.specs.Steps.{adding}
@@ -25,8 +25,6 @@ use Rattle.lowering.specs.Table.{Ready}
 use Rattle.lowering.specs.Fair.{AllWithin}
 use Rattle.lowering.proofs.Laws.ReadyFile.{ready_points, ready_in_range, ready_links}
 use Rattle.lowering.proofs.Theory.SweepsEnd.{kept_trans}
-use Rattle.lowering.proofs.Laws.LinksAsRead.{few}
-use Rattle.whole.proofs.Place.{square_le}
 use Rattle.scratch.specs.Swept.{strict_part, open_part, Both, Ended}
 use Rattle.scratch.specs.Begun.{Begun}
 use Rattle.scratch.specs.Copies.{Narrowed, InReach, OutOfReach}

@@ -12,7 +12,7 @@ use Rattle.rules.specs.Calls as calls
 use Rattle.rules.specs.Calls.{RoomForTables, Written, Judged, Timed, TimesOf}
 use Rattle.rules.specs.Answers.{Answer, Done, ShortRoom, HasLinks, code_of}
 use Rattle.rules.proofs.Demands.{version1_coherent, demand2_of_plans}
-use Rattle.plan.specs.Layout.{head_of, plan_of}
+use Rattle.plan.specs.Layout.{plan_of}
 use Rattle.plan.specs.File.{file_answer}
 use Rattle.plan.proofs.SoundFile.{links_length}
 use Rattle.cell.proofs.StoredCells.{within_stored}

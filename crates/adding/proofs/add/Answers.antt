@@ -2,9 +2,8 @@
 use Rattle.std.proofs.lemmas.Result.{err_from_is_err_and}
 use mathlib.Core.Path.{sym, ◌∙◌}
 use mathlib.Core.Logic.{inl, inr}
-use Rattle.lowering.proofs.Common.{◌≡◌, arith, back, rules, Done, few}
+use Rattle.lowering.proofs.Common.{arith, back, few}
 use Rattle.whole.proofs.Place.{square_le}
-use Rattle.plan.specs.File.{add_answer}
 use Rattle.plan.proofs.SoundFile.{add_exactly}
 use Rattle.reader.proofs.Plans.{ready_of}
 use Rattle.adding.proofs.AddAnswers.{file_refused, short, lent}
