@@ -4,7 +4,7 @@ ghost use Rattle.rules.specs.Plan.{Plan};
 ghost use Rattle.plan.specs.Layout.{plan_of, link_at};
 ghost use Rattle.chain.specs.Lines.{Line};
 ghost use Rattle.chain.specs.Reasons.{line, link_offer, always};
-ghost use Rattle.offers.specs.Kinds.{kind_number};
+ghost use Rattle.offers.specs.Kinds.{kind_number, join_number};
 ghost use Rattle.offers.specs.Drafts.{made_of, Notable};
 ghost use Rattle.offers.specs.Work.{Known};
 ghost use Rattle.reasons.specs.Stands.{Placed, TryLeft, outer_of, middle_of, inner_of};
@@ -13,20 +13,20 @@ ghost use Rattle.reasons.specs.Stepping.{Tried, Stepped, Joins};
 use crate::places::{inner, middle, outer};
 use crate::{Place, Step};
 use offers::{
-    Bests, Draft, Kind, join_draft, kept, limit_draft, longest_draft, lower_case_draft,
+    Bests, Draft, join_draft, kept, limit_draft, longest_draft, lower_case_draft,
     lower_draft, next_join, shortest_draft, start_draft, upper_draft,
 };
 use reader::SoundPlan;
 use rules::Side;
 
 // A step of joins: the next column whose cell one lowers, or the end of the row.
-fn join_step(work: Bests, side: Side, kind: Kind, at: Place) -> Step
-    requires { (at.a < work.plan.n) × (at.b < work.plan.n) × (at.c < work.plan.n) × Known work.plan.n work.cells.now × Joins side (kind_number kind) at.phase }
+fn join_step(work: Bests, side: Side, at: Place) -> Step
+    requires { (at.a < work.plan.n) × (at.b < work.plan.n) × (at.c < work.plan.n) × Known work.plan.n work.cells.now × Joins side (join_number side) at.phase }
     ensures { (p : Plan) (g : ℕ) → p.points ≡ work.entry.plan.n → Stepped p g work.entry.cells.now at result }
 {
     match next_join(work, side, at.a, at.b, at.c) {
         Some(z) => Step {
-            line: Some(join_draft(work, side, kind, at.a, at.b, z)),
+            line: Some(join_draft(work, side, at.a, at.b, z)),
             next: Place {
                 phase: at.phase,
                 a: at.a,
@@ -120,10 +120,10 @@ pub fn step_at(work: Bests, g: u64, at: Place) -> Step
         };
     }
     if phase == 3 {
-        return join_step(work, Side::Strict, Kind::Join, at);
+        return join_step(work, Side::Strict, at);
     }
     if phase == 6 {
-        return join_step(work, Side::Open, Kind::OpenJoin, at);
+        return join_step(work, Side::Open, at);
     }
     Step {
         line: try_at(work, g, at),
