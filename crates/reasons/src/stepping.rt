@@ -51,13 +51,11 @@ fn link_line(plan: SoundPlan, i: u32, c: u32) -> Draft
     requires { (i < plan.k) × (c < 3) }
     ensures { ((ls : List Line) → link_offer i (link_at plan.entry.file.now plan.entry.m i) c ls ≡ line (made_of result)) × Notable plan.entry.n result × (always (kind_number result.kind) ≡ true) }
 {
-    if c == 0 {
-        return longest_draft(plan, i);
+    match c {
+        0 => longest_draft(plan, i),
+        1 => shortest_draft(plan, i),
+        _ => lower_case_draft(plan, i),
     }
-    if c == 1 {
-        return shortest_draft(plan, i);
-    }
-    lower_case_draft(plan, i)
 }
 
 // What the try at a place adds, of any other part than joins.
