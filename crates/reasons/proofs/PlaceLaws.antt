@@ -159,10 +159,6 @@ placed_most {s} {n} {m} {k} {at} r q =
       omega (arith, q.c_most, inner_is s n m k r at.phase, inner_most n m k at.phase few),
     )
 
--- there is a point
-pub some_point : {s : List ℕ} {n m k : ℕ} → Ready s n m k → 0 < (plan_of s).points
-some_point {s} {n} {m} {k} r = (ready_in_range s n m k r).some_point
-
 -- before the ends of its loops a try is left
 pub try_before : {s : List ℕ} {n m k : ℕ} (r : Ready s n m k) (at : Place) {turns rows columns : ℕ} → turns ≡ outer_of n m k at.phase → at.a < turns
     → rows ≡ middle_of n k at.phase → at.b < rows → columns ≡ inner_of n at.phase → at.c < columns → TryLeft (plan_of s) at

@@ -63,19 +63,13 @@ fn try_at(work: Bests, g: u64, at: Place) -> Option<Draft>
     requires { (at.a < outer_of work.plan.n work.plan.m work.plan.k at.phase) × (at.b < middle_of work.plan.n work.plan.k at.phase) × (at.c < inner_of work.plan.n at.phase) × (at.phase ≤ 5) × (at.phase ≢ 3) × (g ≤ 4096) × Known work.plan.n work.cells.now }
     ensures { Tried (plan_of work.entry.plan.file.now) g work.entry.cells.now at result }
 {
-    if at.phase == 0 {
-        return kept(work, start_draft(at.a));
+    match at.phase {
+        0 => kept(work, start_draft(at.a)),
+        1 => kept(work, limit_draft(work.plan, at.a)),
+        2 => Some(link_line(work.plan, at.a, at.c)),
+        4 => kept(work, lower_draft(work, g, at.a, at.b)?),
+        _ => kept(work, upper_draft(work, g, at.a, at.b)?),
     }
-    if at.phase == 1 {
-        return kept(work, limit_draft(work.plan, at.a));
-    }
-    if at.phase == 2 {
-        return Some(link_line(work.plan, at.a, at.c));
-    }
-    if at.phase == 4 {
-        return kept(work, lower_draft(work, g, at.a, at.b)?);
-    }
-    kept(work, upper_draft(work, g, at.a, at.b)?)
 }
 
 // One step: a try, or on from a loop that is through.
