@@ -14,7 +14,7 @@ pub use borrow.Author.Rules.{rules}
 pub use borrow.Author.Tests.{not-false, not-true}
 pub use Rattle.whole.proofs.Place.{inside, square_le}
 pub use Rattle.cell.proofs.CellMethods.{is_mark_lem as mark-read}
-pub use Rattle.offers.proofs.OfferLaws.{spot_below, four_tables, part_small, part_next, known_room, kept_adds, kept_notable, near_read, line_read, same_line}
+pub use Rattle.offers.proofs.OfferLaws.{spot_below, part_small, part_next, kept_adds, kept_notable, near_read, line_read, same_line}
 pub use Rattle.offers.proofs.OfferLaws.{lowers_read, none_more, none_all, none_by_mark, join_made, sum_number}
 pub use Rattle.cell.proofs.CellMethods.{no_mark}
 pub use Rattle.cell.specs.Steps.{cell64}

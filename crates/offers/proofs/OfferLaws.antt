@@ -7,10 +7,10 @@ use Rattle.std.specs.Prelude.{Some, None, IfSome}
 use Rattle.std.specs.Bool.{then_some}
 use mathlib.Core.List.{List, ◌∷◌}
 use Prim.Native.Nat.{ℕ, suc, ◌+◌, ◌*◌, ◌≤◌, ◌<◌}
-use native.Mathlib.Nat.{mul-le-mul, eq-or-lt_of_le}
+use native.Mathlib.Nat.{eq-or-lt_of_le}
 use lib.Arith.{digits_lt}
 use native.Mathlib.Omega.{arith}
-use lib.ListN.{length, get_or}
+use lib.ListN.{get_or}
 use lib.IntN.{ℤ, pos, ◌+ℤ◌, +ℤ_idl, +ℤ_idr}
 use lib.Signed.{◌≤ℤ◌, ≤ℤ_refl}
 use Rattle.whole.proofs.Order.{ints}
@@ -35,10 +35,6 @@ use Rattle.offers.specs.Drafts.{made_of, Offers, Adds, Notable, Plain, lowers_by
 -- within the four tables
 pub spot_below : {n part x y : ℕ} → x < n → y < n → part < 4 → spot_of n part x y < 4 * (n * n)
 spot_below hx hy hp = digits_lt hp (digits_lt hx hy)
-
--- which are at most so large
-pub four_tables : {n : ℕ} → n ≤ 64 → 4 * (n * n) ≤ 16384
-four_tables h = let s = mul-le-mul h h in omega (arith, s)
 
 -- the two tables of a side are among them
 pub part_next : (s : Side) → suc (part_of s) < 4
@@ -195,9 +191,6 @@ module _ (n : ℕ) (work : List ℤ) (d : Draft) (c : ℤ) (p : Plain n d) (ec :
   pub kept_notable : (t : Bool) → IfSome (then_some t d) (Notable n)
   kept_notable true = p.notable
   kept_notable false = tt
-
-pub known_room : {n : ℕ} {work : List ℤ} → Known n work → 4 * (n * n) ≤ length work
-known_room k = k.standing.holds.room
 
 -- the number that was read of a line
 pub same_line : (work : List ℤ) {i j r v : ℕ} → pos r ≡ get_or work i (pos 0) → i ≡ j → get_or work j (pos 0) ≡ pos v → r ≡ v

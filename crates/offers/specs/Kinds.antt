@@ -1,5 +1,7 @@
 -- The paper's numbers of the kinds of lines. Assumes nothing.
 use Rattle.std.specs.Prelude.{ℕ}
+use Rattle.rules.specs.declared.Side.{Side}
+use Rattle.rules.specs.declared.Side.TheVariants.{Strict, Open}
 use Rattle.offers.specs.declared.kinds.Kind.{Kind}
 use Rattle.offers.specs.declared.kinds.Kind.TheVariants.{Start, Limit, Longest, Shortest, LowerCase, Join, Lower, Upper, OpenJoin}
 
@@ -13,3 +15,8 @@ kind_number Join = 6
 kind_number Lower = 7
 kind_number Upper = 8
 kind_number OpenJoin = 9
+
+-- of joins of a side's bests
+abbrev pub join_number : Side → ℕ
+join_number Strict = 6
+join_number Open = 9

@@ -2,7 +2,7 @@
 ghost use Rattle.std.specs.Prelude.{◌≡◌, true, List, ◌≤◌, ◌<◌};
 ghost use Rattle.chain.specs.Lines.{Line, best};
 ghost use Rattle.chain.specs.Reasons.{line, joined};
-ghost use Rattle.offers.specs.Kinds.{kind_number};
+ghost use Rattle.offers.specs.Kinds.{join_number};
 ghost use Rattle.offers.specs.Work.{part_of, Known, Standing};
 ghost use Rattle.offers.specs.Drafts.{made_of, Notable, lowers_by, NextJoin};
 
@@ -30,13 +30,13 @@ pub fn next_join(work: Bests, side: Side, y: u32, x: u32, z: u32) -> Option<u32>
 }
 
 // The join of the best lines from x to y and from y to z.
-pub fn join_draft(work: Bests, side: Side, kind: Kind, y: u32, x: u32, z: u32) -> Draft
+pub fn join_draft(work: Bests, side: Side, y: u32, x: u32, z: u32) -> Draft
     requires { (x < work.plan.n) × (y < work.plan.n) × (z < work.plan.n) × Known work.plan.n work.cells.now × (lowers_by work.plan.n work.cells.now (part_of side) y x z ≡ true) }
-    ensures { ((ls : List Line) → Standing work.entry.plan.n ls work.entry.cells.now → joined (kind_number kind) x z (best side x y ls) (best side y z ls) ≡ line (made_of result)) × Notable work.entry.plan.n result }
+    ensures { ((ls : List Line) → Standing work.entry.plan.n ls work.entry.cells.now → joined (join_number side) x z (best side x y ls) (best side y z ls) ≡ line (made_of result)) × Notable work.entry.plan.n result }
 {
     let w = work.weight(side, x, y).add(work.weight(side, y, z));
     Draft {
-        kind,
+        kind: Kind::join_of(side),
         from: x,
         to: z,
         weight: w,

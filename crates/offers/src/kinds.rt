@@ -1,6 +1,8 @@
 // The kinds of lines.
 ghost use Rattle.std.specs.Prelude.{◌≡◌};
 
+use rules::Side;
+
 // What a line follows from.
 #[derive(Clone, Copy, PartialEq, Eq)]
 pub enum Kind {
@@ -20,7 +22,17 @@ pub enum Kind {
 impl Kind {
     ghost use Rattle.rules.specs.declared.Side.TheVariants.{Strict};
     ghost use Rattle.chain.specs.Lines.{counts};
-    ghost use Rattle.offers.specs.Kinds.{kind_number};
+    ghost use Rattle.offers.specs.Kinds.{kind_number, join_number};
+
+    // What joins of a side's bests are.
+    pub fn join_of(side: Side) -> Kind
+        ensures { kind_number result ≡ join_number side }
+    {
+        match side {
+            Side::Strict => Kind::Join,
+            Side::Open => Kind::OpenJoin,
+        }
+    }
 
     // Its number in the paper.
     pub fn number(self) -> u32

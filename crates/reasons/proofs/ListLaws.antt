@@ -43,19 +43,6 @@ part_length room i v t = by (ltb i room)
     by true = length-set t i v
     by false = refl
 
-line_room : (room i : ℕ) (l : Line) (t : Lists) → Roomy room t → Roomy room (set_line room i l t)
-unfolding set_line
-line_room room i l t r =
-    record {
-      place = r.place;
-      kinds = rw (part_length room i l.kind t.kinds) r.kinds;
-      froms = rw (part_length room i l.from t.froms) r.froms;
-      tos = rw (part_length room i l.to t.tos) r.tos;
-      weights = rw (part_length room i l.weight t.weights) r.weights;
-      firsts = rw (part_length room i (word l.first) t.firsts) r.firsts;
-      seconds = rw (part_length room i (word l.second) t.seconds) r.seconds;
-    }
-
 -- ---- every line
 
 -- with no room the lists stay as they were
@@ -63,12 +50,6 @@ pub laid_none : (ls : List Line) (t : Lists) → laid 0 ls t ≡ t
 unfolding laid
 laid_none [] t = refl
 laid_none (l ∷ ls) t = set_out 0 (length ls) l (laid 0 ls t) (omega arith) ∙ laid_none ls t
-
--- there is still as much room
-pub laid_room : {room : ℕ} (ls : List Line) {t : Lists} → Roomy room t → Roomy room (laid room ls t)
-unfolding laid
-laid_room [] r = r
-laid_room {room} (l ∷ ls) {t} r = line_room room (length ls) l (laid room ls t) (laid_room ls r)
 
 -- one more part of a line in its list
 column_more : {A : Type 0} {d : A} {part : Line → A} {l : Line} {ls : List Line} {before after : List A} (room : ℕ) (v : A) → length ls < room → room ≤ length before

@@ -1,7 +1,6 @@
 -- What the work room holds after a line was noted: where it held the bests of a list so far, it holds those of the list with the line. Assumes nothing.
 use mathlib.Core.Path.{◌≡◌, refl, sym, ap, ◌∙◌}
 use mathlib.Core.Bool.{Bool, true, false, cond, ◌&&◌}
-use mathlib.Core.Logic.{◌⊎◌, inl, inr}
 use mathlib.Core.List.{List, ◌∷◌}
 use Prim.Native.Nat.{ℕ, suc, ◌+◌, ◌*◌, ◌≤◌, ◌<◌}
 use native.Mathlib.Decide.{ℕ_discrete}
@@ -89,17 +88,6 @@ module _ (n part : ℕ) (l : Line) (i : ℕ) (work : List ℤ) {c : ℤ} {t : Bo
       → set (set work a l.weight) b v ≡ note_pair n part l i work
   unfolding note_pair
   pair_written f ea eb ev = rw (below_is ∙ f, ea, eb, ev, add-one part)
-
--- a line for open pairs alone is not noted in the strict table, and any other is
-pub strict_none : (n : ℕ) (l : Line) (i : ℕ) (work : List ℤ) → (l.kind ≡ 5) ⊎ (l.kind ≡ 9) → work ≡ note_strict n l i work
-unfolding note_strict
-strict_none n l i work (inl e) = rw e
-strict_none n l i work (inr e) = rw e
-
-pub strict_some : (n : ℕ) (l : Line) (i : ℕ) (work : List ℤ) {last : List ℤ} → (l.kind ≡ 5 → ⊥) → (l.kind ≡ 9 → ⊥) → last ≡ note_pair n 0 l i work
-    → last ≡ note_strict n l i work
-unfolding note_strict
-strict_some n l i work a b e = rw (ne_eqb l.kind 5 a, ne_eqb l.kind 9 b) e
 
 -- one after the other
 pub line_written : (n : ℕ) (l : Line) (i : ℕ) (work : List ℤ) {mid last : List ℤ} → mid ≡ note_strict n l i work → last ≡ note_pair n 2 l i mid

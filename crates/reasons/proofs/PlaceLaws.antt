@@ -1,6 +1,6 @@
 -- The places of the working-out: how often loops turn, and from one place to the next. Assumes nothing.
-use mathlib.Core.Path.{◌≡◌, refl, sym, ap, ◌∙◌}
-use mathlib.Core.Logic.{◌≢◌, ⊎_elim}
+use mathlib.Core.Path.{◌≡◌, sym, ap, ◌∙◌}
+use mathlib.Core.Logic.{⊎_elim}
 use mathlib.Core.List.{List}
 use Prim.Native.Nat.{ℕ, zero, suc, ◌+◌, ◌-◌, ◌≤◌, ◌<◌}
 use native.Mathlib.Nat.{eq-or-lt_of_le}
@@ -16,41 +16,6 @@ use Rattle.chain.specs.Lines.{Line}
 use Rattle.chain.specs.Reasons.{each}
 use Rattle.reasons.specs.declared.Place.{Place}
 use Rattle.reasons.specs.Stands.{steps_of, outer_of, middle_of, inner_of, outer, middle, inner, through, after, Moves, Placed, TryLeft, left_of}
-
--- ---- how often loops turn
-
-pub outer_else : (n m k q : ℕ) → q ≢ 1 → q ≢ 2 → q ≢ 4 → n ≡ outer_of n m k q
-outer_else n m k zero a b c = refl
-outer_else n m k (suc zero) a b c = absurd (a refl)
-outer_else n m k (suc (suc zero)) a b c = absurd (b refl)
-outer_else n m k (suc (suc (suc zero))) a b c = refl
-outer_else n m k (suc (suc (suc (suc zero)))) a b c = absurd (c refl)
-outer_else n m k (suc (suc (suc (suc (suc q))))) a b c = refl
-
-pub middle_given : (n k q : ℕ) → q < 3 → 1 ≡ middle_of n k q
-middle_given n k zero h = refl
-middle_given n k (suc zero) h = refl
-middle_given n k (suc (suc zero)) h = refl
-middle_given n k (suc (suc (suc q))) h = absurd (omega arith)
-
-pub middle_else : (n k q : ℕ) → 3 ≤ q → q ≢ 4 → q ≢ 5 → n ≡ middle_of n k q
-middle_else n k zero h a b = absurd (omega arith)
-middle_else n k (suc zero) h a b = absurd (omega arith)
-middle_else n k (suc (suc zero)) h a b = absurd (omega arith)
-middle_else n k (suc (suc (suc zero))) h a b = refl
-middle_else n k (suc (suc (suc (suc zero)))) h a b = absurd (a refl)
-middle_else n k (suc (suc (suc (suc (suc zero))))) h a b = absurd (b refl)
-middle_else n k (suc (suc (suc (suc (suc (suc q)))))) h a b = refl
-
-pub inner_else : (n q : ℕ) → q < 7 → q ≢ 2 → q ≢ 3 → q ≢ 6 → 1 ≡ inner_of n q
-inner_else n zero h a b c = refl
-inner_else n (suc zero) h a b c = refl
-inner_else n (suc (suc zero)) h a b c = absurd (a refl)
-inner_else n (suc (suc (suc zero))) h a b c = absurd (b refl)
-inner_else n (suc (suc (suc (suc zero)))) h a b c = refl
-inner_else n (suc (suc (suc (suc (suc zero))))) h a b c = refl
-inner_else n (suc (suc (suc (suc (suc (suc zero)))))) h a b c = absurd (c refl)
-inner_else n (suc (suc (suc (suc (suc (suc (suc q))))))) h a b c = absurd (omega arith)
 
 -- ---- the counts of a sound file
 
@@ -193,10 +158,6 @@ placed_most {s} {n} {m} {k} {at} r q =
       omega (arith, q.b_most, middle_is s n m k r at.phase, middle_most n m k at.phase few),
       omega (arith, q.c_most, inner_is s n m k r at.phase, inner_most n m k at.phase few),
     )
-
--- there is a point
-pub some_point : {s : List ℕ} {n m k : ℕ} → Ready s n m k → 0 < (plan_of s).points
-some_point {s} {n} {m} {k} r = (ready_in_range s n m k r).some_point
 
 -- before the ends of its loops a try is left
 pub try_before : {s : List ℕ} {n m k : ℕ} (r : Ready s n m k) (at : Place) {turns rows columns : ℕ} → turns ≡ outer_of n m k at.phase → at.a < turns

@@ -19,7 +19,7 @@ use Rattle.std.specs.declared.ops.ControlFlow.{ControlFlow}
 use Rattle.reasons.specs.Stands.{through}
 use Rattle.reasons.specs.Notes.{laid}
 use Rattle.reasons.specs.Working.{lines_of, ended_of, Begun, Begins, Left, SweptTo, Swept, Sweeping, Worked}
-use Rattle.reasons.proofs.WorkLaws.{through_rest, kept_refl, kept_trans}
+use Rattle.reasons.proofs.WorkLaws.{through_rest, kept_trans}
 use Rattle.reasons.proofs.FineLaws.{fine_sweep, fine_before, fine_links, sweeps_few, before_through, given_through, sweep_through}
 
 -- ---- a list only grows
@@ -125,9 +125,6 @@ before_few p h =
 -- ---- the loop's turns
 
 module _ {p : Plan} {n g room count₀ : ℕ} {lists₀ : Lists} {work₀ : List ℤ} (e : p.points ≡ n) (eg : g ≡ length (before_links p)) (h : InRange version1 p) where
-  pub sweeping_none : Sweeping p room count₀ lists₀ work₀ → SweepingOn p n room count₀ lists₀ work₀ count₀ lists₀ work₀
-  sweeping_none s = record { kept = kept_refl (4 * (n * n)) work₀; known = s; stands = λ first q. q }
-
   module _ {count : ℕ} {lists : Lists} {work : List ℤ} (q : SweepingOn p n room count₀ lists₀ work₀ count lists work) where
     pub sweeping_begins : Begins p g 3 7 room count lists work
     sweeping_begins =

@@ -8,37 +8,31 @@ pub fn outer(plan: SoundPlan, phase: u32) -> u32
     requires { phase < 7 }
     ensures { result ≡ outer_of plan.entry.n plan.entry.m plan.entry.k phase }
 {
-    if phase == 1 {
-        return plan.m;
+    match phase {
+        1 => plan.m,
+        2 | 4 => plan.k,
+        _ => plan.n as u32,
     }
-    if phase == 2 || phase == 4 {
-        return plan.k;
-    }
-    plan.n as u32
 }
 
 pub fn middle(plan: SoundPlan, phase: u32) -> u32
     requires { phase < 7 }
     ensures { result ≡ middle_of plan.entry.n plan.entry.k phase }
 {
-    if phase < 3 {
-        return 1;
+    match phase {
+        0 | 1 | 2 => 1,
+        4 | 5 => plan.k,
+        _ => plan.n as u32,
     }
-    if phase == 4 || phase == 5 {
-        return plan.k;
-    }
-    plan.n as u32
 }
 
 pub fn inner(plan: SoundPlan, phase: u32) -> u32
     requires { phase < 7 }
     ensures { result ≡ inner_of plan.entry.n phase }
 {
-    if phase == 2 {
-        return 3;
+    match phase {
+        2 => 3,
+        3 | 6 => plan.n as u32,
+        _ => 1,
     }
-    if phase == 3 || phase == 6 {
-        return plan.n as u32;
-    }
-    1
 }

@@ -4,7 +4,7 @@ ghost use Rattle.rules.specs.Plan.{Plan};
 ghost use Rattle.plan.specs.Layout.{plan_of, link_at};
 ghost use Rattle.chain.specs.Lines.{Line};
 ghost use Rattle.chain.specs.Reasons.{line, link_offer, always};
-ghost use Rattle.offers.specs.Kinds.{kind_number};
+ghost use Rattle.offers.specs.Kinds.{kind_number, join_number};
 ghost use Rattle.offers.specs.Drafts.{made_of, Notable};
 ghost use Rattle.offers.specs.Work.{Known};
 ghost use Rattle.reasons.specs.Stands.{Placed, TryLeft, outer_of, middle_of, inner_of};
@@ -13,20 +13,20 @@ ghost use Rattle.reasons.specs.Stepping.{Tried, Stepped, Joins};
 use crate::places::{inner, middle, outer};
 use crate::{Place, Step};
 use offers::{
-    Bests, Draft, Kind, join_draft, kept, limit_draft, longest_draft, lower_case_draft,
+    Bests, Draft, join_draft, kept, limit_draft, longest_draft, lower_case_draft,
     lower_draft, next_join, shortest_draft, start_draft, upper_draft,
 };
 use reader::SoundPlan;
 use rules::Side;
 
 // A step of joins: the next column whose cell one lowers, or the end of the row.
-fn join_step(work: Bests, side: Side, kind: Kind, at: Place) -> Step
-    requires { (at.a < work.plan.n) × (at.b < work.plan.n) × (at.c < work.plan.n) × Known work.plan.n work.cells.now × Joins side (kind_number kind) at.phase }
+fn join_step(work: Bests, side: Side, at: Place) -> Step
+    requires { (at.a < work.plan.n) × (at.b < work.plan.n) × (at.c < work.plan.n) × Known work.plan.n work.cells.now × Joins side (join_number side) at.phase }
     ensures { (p : Plan) (g : ℕ) → p.points ≡ work.entry.plan.n → Stepped p g work.entry.cells.now at result }
 {
     match next_join(work, side, at.a, at.b, at.c) {
         Some(z) => Step {
-            line: Some(join_draft(work, side, kind, at.a, at.b, z)),
+            line: Some(join_draft(work, side, at.a, at.b, z)),
             next: Place {
                 phase: at.phase,
                 a: at.a,
@@ -51,13 +51,11 @@ fn link_line(plan: SoundPlan, i: u32, c: u32) -> Draft
     requires { (i < plan.k) × (c < 3) }
     ensures { ((ls : List Line) → link_offer i (link_at plan.entry.file.now plan.entry.m i) c ls ≡ line (made_of result)) × Notable plan.entry.n result × (always (kind_number result.kind) ≡ true) }
 {
-    if c == 0 {
-        return longest_draft(plan, i);
+    match c {
+        0 => longest_draft(plan, i),
+        1 => shortest_draft(plan, i),
+        _ => lower_case_draft(plan, i),
     }
-    if c == 1 {
-        return shortest_draft(plan, i);
-    }
-    lower_case_draft(plan, i)
 }
 
 // What the try at a place adds, of any other part than joins.
@@ -65,19 +63,13 @@ fn try_at(work: Bests, g: u64, at: Place) -> Option<Draft>
     requires { (at.a < outer_of work.plan.n work.plan.m work.plan.k at.phase) × (at.b < middle_of work.plan.n work.plan.k at.phase) × (at.c < inner_of work.plan.n at.phase) × (at.phase ≤ 5) × (at.phase ≢ 3) × (g ≤ 4096) × Known work.plan.n work.cells.now }
     ensures { Tried (plan_of work.entry.plan.file.now) g work.entry.cells.now at result }
 {
-    if at.phase == 0 {
-        return kept(work, start_draft(at.a));
+    match at.phase {
+        0 => kept(work, start_draft(at.a)),
+        1 => kept(work, limit_draft(work.plan, at.a)),
+        2 => Some(link_line(work.plan, at.a, at.c)),
+        4 => kept(work, lower_draft(work, g, at.a, at.b)?),
+        _ => kept(work, upper_draft(work, g, at.a, at.b)?),
     }
-    if at.phase == 1 {
-        return kept(work, limit_draft(work.plan, at.a));
-    }
-    if at.phase == 2 {
-        return Some(link_line(work.plan, at.a, at.c));
-    }
-    if at.phase == 4 {
-        return kept(work, lower_draft(work, g, at.a, at.b)?);
-    }
-    kept(work, upper_draft(work, g, at.a, at.b)?)
 }
 
 // One step: a try, or on from a loop that is through.
@@ -120,10 +112,10 @@ pub fn step_at(work: Bests, g: u64, at: Place) -> Step
         };
     }
     if phase == 3 {
-        return join_step(work, Side::Strict, Kind::Join, at);
+        return join_step(work, Side::Strict, at);
     }
     if phase == 6 {
-        return join_step(work, Side::Open, Kind::OpenJoin, at);
+        return join_step(work, Side::Open, at);
     }
     Step {
         line: try_at(work, g, at),

@@ -45,8 +45,8 @@ fn take(lists: &mut Lists<'_>, work: &mut Work<'_>, lines: u64, d: Option<Draft>
     lines + 1
 }
 
-// The parts from one on and before another, of a list that has not ended, with g lines before those of the links. It breaks off at a line that ends the list; either
-// way it says how many lines there are then.
+// The parts from one on and before another, of a list that has not ended, with g lines before those of the links. How many lines there are then: it breaks
+// off at a line that ends the list.
 fn work_through(
     lists: &mut Lists<'_>,
     work: &mut Work<'_>,
