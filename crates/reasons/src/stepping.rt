@@ -13,8 +13,8 @@ ghost use Rattle.reasons.specs.Stepping.{Tried, Stepped, Joins};
 use crate::places::{inner, middle, outer};
 use crate::{Place, Step};
 use offers::{
-    Bests, Draft, join_draft, kept, limit_draft, longest_draft, lower_case_draft,
-    lower_draft, next_join, shortest_draft, start_draft, upper_draft,
+    Bests, Draft, join_draft, kept, limit_draft, longest_draft, lower_case_draft, lower_draft,
+    next_join, shortest_draft, start_draft, upper_draft,
 };
 use reader::SoundPlan;
 use rules::Side;
