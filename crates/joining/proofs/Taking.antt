@@ -3,7 +3,7 @@ use mathlib.Core.Path.{◌≡◌, refl, ap, ◌∙◌}
 use mathlib.Core.List.{List}
 use Prim.Native.Nat.{ℕ, ◌+◌, ◌*◌, ◌<◌, ◌≤◌}
 use native.Mathlib.Numerals.{add-one}
-use lib.ListN.{get_or, set}
+use lib.ListN.{get_or}
 use lib.IntN.{ℤ, pos}
 use mir.Syntax.{Width, w32}
 use mir.Val.{SFits, to_z, of_z}
@@ -12,22 +12,18 @@ use Rattle.whole.proofs.Order.{ints, neg}
 use Rattle.rules.specs.Plan.{Ranges, Limit, version1, LimitInRange}
 use Rattle.rules.specs.Cells.{Cell, mark, num, ◌+ᶜ◌, cell_of}
 use Rattle.rules.proofs.Coherence.{Coherent}
-use Rattle.cell.specs.Steps.{smallerᶜ, clamped}
 use Rattle.cell.proofs.CellMethods.{Room, number_between}
 use Rattle.cell.specs.declared.word.Word.{Ghosts}
 use Rattle.lowering.specs.Table.{Sound}
 use Rattle.lowering.specs.Sweep.{iter, lower_cell, join_cell, join_row}
-use Rattle.lowering.proofs.Laws.LoopTurns.{lowering_is, join_cell_is, join_row_is, row_at_mark}
+use Rattle.lowering.proofs.Laws.LoopTurns.{join_cell_is, join_row_is, row_at_mark}
 use Rattle.lowering.proofs.Theory.LoweredTables.{cell_lowered}
 use Rattle.joining.specs.declared.table.Table.{Table}
 use Rattle.joining.specs.Takes.{Takes}
 
 -- a table stays sound where one cell is lowered
-pub write_sound : {r : Ranges} → Coherent r → {n x y : ℕ} {t : List ℤ} {old : ℤ} {u : List ℤ} (c : Cell) (kept new : ℤ) → Sound r n t → x < n → y < n
-    → old ≡ get_or t (x * n + y) (pos 0) → cell_of r.mark kept ≡ clamped r.reach c
-    → cell_of r.mark new ≡ smallerᶜ (cell_of r.mark kept) (cell_of r.mark old) → u ≡ set t (x * n + y) new → Sound r n u
-write_sound {r} h {n} {x} {y} {t} {old} {u} c kept new s hx hy eo ek en eu =
-    rw (lowering_is r n x y c t u old kept new eo ek en eu) (cell_lowered r h n x y c t hx hy s).sound
+pub lower_sound : {r : Ranges} → Coherent r → {n x y : ℕ} {t u : List ℤ} (c : Cell) → Sound r n t → x < n → y < n → u ≡ lower_cell r n x y c t → Sound r n u
+lower_sound {r} h {n} {x} {y} {t} c s hx hy e = rw e (cell_lowered r h n x y c t hx hy s).sound
 
 module _ {W : Type 0} {w : Ghosts W} where
   -- nothing done

@@ -1,6 +1,7 @@
 // Lent lists of cells: one cell read and written, and the mark in the first cells.
 ghost use Rattle.std.specs.Prelude.{◌≡◌, ◌+◌, ◌*◌, ◌≤◌, ◌<◌, length, get_or, set, pos};
-ghost use Rattle.lowering.specs.Sweep.{mark_all};
+ghost use Rattle.rules.specs.Cells.{cell_of};
+ghost use Rattle.lowering.specs.Sweep.{lower_cell, mark_all};
 
 use cell::Word;
 
@@ -26,6 +27,15 @@ pub fn put<W: Word>(t: &mut [W], i: usize, c: W)
     ensures { W.values t.new ≡ set (W.values t.old) i (W.value c) }
 {
     t[i] = c;
+}
+
+// The cell x to y of a list with room for a table lowered to c where that is smaller.
+pub fn lower_cell<W: Word>(t: &mut [W], n: usize, x: usize, y: usize, c: W)
+    requires { (x < n) × (y < n) × (n ≤ 64) × (n * n ≤ length (W.values t.old)) }
+    ensures { W.values t.new ≡ lower_cell W.ranges n x y (cell_of W.ranges.mark (W.value c)) (W.values t.old) }
+{
+    let new = c.kept().smaller(get(t, n, x, y));
+    put(t, x * n + y, new);
 }
 
 // The first cells all the mark.

@@ -9,7 +9,7 @@ ghost use Rattle.lowering.specs.Sweep.{lower_cell, join_row, join_middle, join_a
 ghost use Rattle.lowering.specs.Spread.{row_by};
 ghost use Rattle.joining.specs.Lent.{Sound-prop};
 
-use crate::cells::{get, mark_all, put};
+use crate::cells::{get, lower_cell, mark_all};
 use crate::view::View;
 use cell::Word;
 use plan::Limit;
@@ -62,8 +62,7 @@ impl<W: Word> Table<'_, W> {
         requires { (x < self.old.n) × (y < self.old.n) }
         ensures { Takes (lower_cell W.ranges self.old.n x y (cell_of W.ranges.mark (W.value c))) self.old self.new }
     {
-        let new = c.kept().smaller(self.get(x, y));
-        put(self.cells, x * self.n + y, new);
+        lower_cell(self.cells, self.n, x, y, c);
     }
 
     // The diagonal at 0.
