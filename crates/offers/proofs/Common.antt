@@ -22,5 +22,5 @@ unfoldable pub use Rattle.cell.specs.Steps.{adding}
 pub use Rattle.cell.proofs.StoredCells.{spread_is}
 pub use Rattle.plan.specs.Values.{limit_of, link_of}
 unfoldable pub use Rattle.chain.specs.Reasons.{link_offer}
-pub use Rattle.lowering.proofs.Laws.LinksAsRead.{few, link_read}
-pub use Rattle.offers.proofs.GivenLaws.{limit_weight, limit_made, longest_made, shortest_made, lower_case_made, SpansFit, spans_fit, span_number, negated_number, negation_fits, lower_own, lower_none, lower_some, upper_own, upper_none, upper_some}
+pub use Rattle.lowering.proofs.Laws.LinksAsRead.{link_read}
+pub use Rattle.offers.proofs.GivenLaws.{limit_weight, link_among, limit_made, longest_made, shortest_made, lower_case_made, SpansFit, spans_fit, span_number, negated_number, negation_fits, lower_own, lower_none, lower_some, upper_own, upper_none, upper_some}

@@ -21,9 +21,10 @@ use Rattle.rules.proofs.Cells.{same_number}
 use Rattle.cell.specs.Steps.{adding, cell32, cell64, is_mark}
 use Rattle.cell.proofs.CellMethods.{number_is}
 use Rattle.cell.proofs.StoredCells.{number_of_lem}
-use Rattle.plan.specs.Layout.{limit_at}
+use Rattle.plan.specs.Layout.{limit_at, link_at}
 use Rattle.lowering.specs.Table.{Ready}
 use Rattle.lowering.proofs.Laws.ReadyFile.{limit_range}
+use Rattle.lowering.proofs.Laws.LinksAsRead.{link_read}
 use Rattle.lowering.proofs.Laws.FirstAsRead.{weight_cell}
 use Rattle.chain.specs.Lines.{Line, by_lower, limit_line, Best, none, still, made, best, weight_of, line_of, cells}
 use Rattle.chain.specs.Reasons.{nothing, line, link_offer, lower_from, lower_offer, upper_from, upper_offer}
@@ -42,6 +43,10 @@ pub limit_weight : {s : List ℕ} {n m k : ℕ} → Ready s n m k → (i : ℕ) 
 limit_weight {s} {n} {m} {k} r i h {l} e v c =
     let q : LimitInRange version1 n l = rw e (limit_range s n m k r i h) in
     number_of_lem adding.mark (c ∙ weight_cell q)
+
+-- a link that was read lies between the points of a work room that has as many
+pub link_among : {s : List ℕ} {w n m k : ℕ} → w ≡ n → Ready s n m k → (i : ℕ) → i < k → {a : Link} → a ≡ link_at s m i → LinkInRange version1 w a
+link_among same r i h e = rw same (link_read r i h e)
 
 -- the numbers of a link that was read fit a cell
 pub record SpansFit (a : Link) : Type 0 where

@@ -7,7 +7,6 @@ ghost use Rattle.offers.specs.Drafts.{Offers, Adds, Notable, Plain};
 
 use crate::Draft;
 use cell::Word;
-use reader::SoundPlan;
 use rules::Side;
 
 // Where the cell of a pair stands in one of the four tables.
@@ -28,36 +27,37 @@ pub fn weights_of(side: Side) -> usize
     }
 }
 
-// The work room of a plan, lent to be read. That there are four tables is part of the type.
+// The work room of a plan with n points, lent to be read. That they are few, and that there are four tables, is part of the type.
 #[derive(Clone, Copy)]
 pub struct Bests<'a> {
-    pub plan: SoundPlan<'a>,
+    pub n: usize,
     pub cells: &'a [i64],
-    pub ghost room: { 4 * (plan.n * plan.n) ≤ length cells.now },
+    pub ghost few: { n ≤ 64 },
+    pub ghost room: { 4 * (n * n) ≤ length cells.now },
 }
 
 impl<'a> Bests<'a> {
     // The weight of the pair's best.
     pub fn weight(self, side: Side, x: u32, y: u32) -> i64
-        requires { (x < self.plan.n) × (y < self.plan.n) }
-        ensures { result ≡ get_or self.entry.cells.now (spot_of self.entry.plan.n (part_of side) x y) (pos 0) }
+        requires { (x < self.n) × (y < self.n) }
+        ensures { result ≡ get_or self.entry.cells.now (spot_of self.entry.n (part_of side) x y) (pos 0) }
     {
-        self.cells[spot(self.plan.n, weights_of(side), x, y)]
+        self.cells[spot(self.n, weights_of(side), x, y)]
     }
 
     // The number of its line.
     pub fn line(self, side: Side, x: u32, y: u32) -> u64
-        requires { (x < self.plan.n) × (y < self.plan.n) × Known self.plan.n self.cells.now }
-        ensures { (v : ℕ) → get_or self.entry.cells.now (spot_of self.entry.plan.n (suc (part_of side)) x y) (pos 0) ≡ pos v → result ≡ v }
+        requires { (x < self.n) × (y < self.n) × Known self.n self.cells.now }
+        ensures { (v : ℕ) → get_or self.entry.cells.now (spot_of self.entry.n (suc (part_of side)) x y) (pos 0) ≡ pos v → result ≡ v }
     {
-        self.cells[spot(self.plan.n, weights_of(side) + 1, x, y)].up()
+        self.cells[spot(self.n, weights_of(side) + 1, x, y)].up()
     }
 }
 
 // What a try of an ordinary line adds: the line, if it beats the strict pair's best.
 pub fn kept(work: Bests, d: Draft) -> Option<Draft>
-    requires { Plain work.plan.n d }
-    ensures { ((offer : List Line → Offer) → Offers work.entry.plan.n work.entry.cells.now offer (Some d) → Adds work.entry.plan.n work.entry.cells.now offer result) × IfSome result (Notable work.entry.plan.n) }
+    requires { Plain work.n d }
+    ensures { ((offer : List Line → Offer) → Offers work.entry.n work.entry.cells.now offer (Some d) → Adds work.entry.n work.entry.cells.now offer result) × IfSome result (Notable work.entry.n) }
 {
     let best = work.weight(Side::Strict, d.from, d.to);
     d.weight.below(best).then_some(d)

@@ -13,14 +13,14 @@ use rules::Side;
 
 // The first column from z on at which a join by the middle y lowers row x, or none; with the cell x to y taken out of the loop.
 pub fn next_join(work: Bests, side: Side, y: u32, x: u32, z: u32) -> Option<u32>
-    requires { (x < work.plan.n) × (y < work.plan.n) × (z ≤ work.plan.n) × Known work.plan.n work.cells.now }
-    ensures { NextJoin work.entry.plan.n work.entry.cells.now (part_of side) y x z result }
+    requires { (x < work.n) × (y < work.n) × (z ≤ work.n) × Known work.n work.cells.now }
+    ensures { NextJoin work.entry.n work.entry.cells.now (part_of side) y x z result }
 {
     let a = work.weight(side, x, y);
     if a.is_mark() {
         return None;
     }
-    for at in z..work.plan.n as u32 {
+    for at in z..work.n as u32 {
         let b = work.weight(side, y, at);
         if a.add(b).below(work.weight(side, x, at)) {
             return Some(at);
@@ -31,8 +31,8 @@ pub fn next_join(work: Bests, side: Side, y: u32, x: u32, z: u32) -> Option<u32>
 
 // The join of the best lines from x to y and from y to z.
 pub fn join_draft(work: Bests, side: Side, y: u32, x: u32, z: u32) -> Draft
-    requires { (x < work.plan.n) × (y < work.plan.n) × (z < work.plan.n) × Known work.plan.n work.cells.now × (lowers_by work.plan.n work.cells.now (part_of side) y x z ≡ true) }
-    ensures { ((ls : List Line) → Standing work.entry.plan.n ls work.entry.cells.now → joined (join_number side) x z (best side x y ls) (best side y z ls) ≡ line (made_of result)) × Notable work.entry.plan.n result }
+    requires { (x < work.n) × (y < work.n) × (z < work.n) × Known work.n work.cells.now × (lowers_by work.n work.cells.now (part_of side) y x z ≡ true) }
+    ensures { ((ls : List Line) → Standing work.entry.n ls work.entry.cells.now → joined (join_number side) x z (best side x y ls) (best side y z ls) ≡ line (made_of result)) × Notable work.entry.n result }
 {
     let w = work.weight(side, x, y).add(work.weight(side, y, z));
     Draft {

@@ -1,5 +1,5 @@
 // Lower and Upper, from the best strict lines.
-ghost use Rattle.std.specs.Prelude.{◌≤◌, ◌<◌, IfSome};
+ghost use Rattle.std.specs.Prelude.{◌≡◌, ◌≤◌, ◌<◌, IfSome};
 ghost use Rattle.plan.specs.Layout.{link_at};
 ghost use Rattle.chain.specs.Reasons.{longest_at, lower_case_at, lower_offer, upper_offer};
 ghost use Rattle.offers.specs.Work.{Known};
@@ -8,15 +8,16 @@ ghost use Rattle.offers.specs.Drafts.{Offers, Plain};
 use crate::bests::Bests;
 use crate::{Draft, Kind};
 use cell::Word;
+use reader::SoundPlan;
 use rules::Side;
 
 // Lower of link i and the second link j, with g lines before those of the links.
-pub fn lower_draft(work: Bests, g: u64, i: u32, j: u32) -> Option<Draft>
-    requires { (i < work.plan.k) × (j < work.plan.k) × (g ≤ 4096) × Known work.plan.n work.cells.now }
-    ensures { Offers work.entry.plan.n work.entry.cells.now (lower_offer (lower_case_at g i) (link_at work.entry.plan.file.now work.entry.plan.m i) (link_at work.entry.plan.file.now work.entry.plan.m j)) result × IfSome result (Plain work.entry.plan.n) }
+pub fn lower_draft(plan: SoundPlan, work: Bests, g: u64, i: u32, j: u32) -> Option<Draft>
+    requires { (work.n ≡ plan.n) × (i < plan.k) × (j < plan.k) × (g ≤ 4096) × Known work.n work.cells.now }
+    ensures { Offers work.entry.n work.entry.cells.now (lower_offer (lower_case_at g i) (link_at plan.entry.file.now plan.entry.m i) (link_at plan.entry.file.now plan.entry.m j)) result × IfSome result (Plain work.entry.n) }
 {
-    let a = work.plan.link(i);
-    let b = work.plan.link(j);
+    let a = plan.link(i);
+    let b = plan.link(j);
     if b.con == a.con {
         return None;
     }
@@ -37,11 +38,11 @@ pub fn lower_draft(work: Bests, g: u64, i: u32, j: u32) -> Option<Draft>
 }
 
 // Upper from the point x for link i. The 0 of the link's own contingent point is no line, so nothing is made from it.
-pub fn upper_draft(work: Bests, g: u64, x: u32, i: u32) -> Option<Draft>
-    requires { (x < work.plan.n) × (i < work.plan.k) × (g ≤ 4096) × Known work.plan.n work.cells.now }
-    ensures { Offers work.entry.plan.n work.entry.cells.now (upper_offer (longest_at g i) x (link_at work.entry.plan.file.now work.entry.plan.m i)) result × IfSome result (Plain work.entry.plan.n) }
+pub fn upper_draft(plan: SoundPlan, work: Bests, g: u64, x: u32, i: u32) -> Option<Draft>
+    requires { (work.n ≡ plan.n) × (x < work.n) × (i < plan.k) × (g ≤ 4096) × Known work.n work.cells.now }
+    ensures { Offers work.entry.n work.entry.cells.now (upper_offer (longest_at g i) x (link_at plan.entry.file.now plan.entry.m i)) result × IfSome result (Plain work.entry.n) }
 {
-    let a = work.plan.link(i);
+    let a = plan.link(i);
     if x == a.con {
         return None;
     }

@@ -304,26 +304,26 @@ limit_offers n work i l d e ls t = ap line (sym e)
 
 -- ---- the try at a place
 
--- what a plan of a sound file tries, by part
-module _ (s : List ℕ) (n m k : ℕ) (r : Ready s n m k) (g : ℕ) (work : List ℤ) (at : Place) (d : Option Draft) (note : IfSome d (Notable n)) where
-  here_is : (ls : List Line) → Standing (plan_of s).points ls work → Standing n ls work
-  here_is ls t = subst (λ (c : ℕ). Standing c ls work) (ready_points s n m k r) t
+-- what a plan of a sound file tries, by part, with the work room of w points, as many as the plan has
+module _ (s : List ℕ) (w n m k : ℕ) (same : w ≡ n) (r : Ready s n m k) (g : ℕ) (work : List ℤ) (at : Place) (d : Option Draft) (note : IfSome d (Notable w)) where
+  here_is : (ls : List Line) → Standing (plan_of s).points ls work → Standing w ls work
+  here_is ls t = subst (λ (c : ℕ). Standing c ls work) (ready_points s n m k r ∙ sym same) t
 
   note_is : IfSome d (Notable (plan_of s).points)
-  note_is = subst (λ (c : ℕ). IfSome d (Notable c)) (sym (ready_points s n m k r)) note
+  note_is = subst (λ (c : ℕ). IfSome d (Notable c)) (same ∙ sym (ready_points s n m k r)) note
 
-  pub tried_start : at.phase ≡ 0 → Adds n work (start_offer at.a) d → Tried (plan_of s) g work at d
+  pub tried_start : at.phase ≡ 0 → Adds w work (start_offer at.a) d → Tried (plan_of s) g work at d
   tried_start e q = record { adds = λ ls t. rw e (q ls (here_is ls t)); notable = note_is }
 
-  pub tried_limit : at.phase ≡ 1 → at.a < m → Adds n work (limit_offer at.a (limit_at s at.a)) d → Tried (plan_of s) g work at d
+  pub tried_limit : at.phase ≡ 1 → at.a < m → Adds w work (limit_offer at.a (limit_at s at.a)) d → Tried (plan_of s) g work at d
   tried_limit e h q = record { adds = λ ls t. rw (e, limit_is s n m k r at.a h) (q ls (here_is ls t)); notable = note_is }
 
-  pub tried_lower : at.phase ≡ 4 → at.a < k → at.b < k → Adds n work (lower_offer (lower_case_at g at.a) (link_at s m at.a) (link_at s m at.b)) d
+  pub tried_lower : at.phase ≡ 4 → at.a < k → at.b < k → Adds w work (lower_offer (lower_case_at g at.a) (link_at s m at.a) (link_at s m at.b)) d
       → Tried (plan_of s) g work at d
   tried_lower e h l q =
       record { adds = λ ls t. rw (e, link_is s n m k r at.a h, link_is s n m k r at.b l) (q ls (here_is ls t)); notable = note_is }
 
-  pub tried_upper : at.phase ≡ 5 → at.b < k → Adds n work (upper_offer (longest_at g at.b) at.a (link_at s m at.b)) d → Tried (plan_of s) g work at d
+  pub tried_upper : at.phase ≡ 5 → at.b < k → Adds w work (upper_offer (longest_at g at.b) at.a (link_at s m at.b)) d → Tried (plan_of s) g work at d
   tried_upper e h q = record { adds = λ ls t. rw (e, link_is s n m k r at.b h) (q ls (here_is ls t)); notable = note_is }
 
 -- the lines of a link are always written

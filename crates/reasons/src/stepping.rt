@@ -21,8 +21,8 @@ use rules::Side;
 
 // A step of joins: the next column whose cell one lowers, or the end of the row.
 fn join_step(work: Bests, side: Side, at: Place) -> Step
-    requires { (at.a < work.plan.n) × (at.b < work.plan.n) × (at.c < work.plan.n) × Known work.plan.n work.cells.now × Joins side (join_number side) at.phase }
-    ensures { (p : Plan) (g : ℕ) → p.points ≡ work.entry.plan.n → Stepped p g work.entry.cells.now at result }
+    requires { (at.a < work.n) × (at.b < work.n) × (at.c < work.n) × Known work.n work.cells.now × Joins side (join_number side) at.phase }
+    ensures { (p : Plan) (g : ℕ) → p.points ≡ work.entry.n → Stepped p g work.entry.cells.now at result }
 {
     match next_join(work, side, at.a, at.b, at.c) {
         Some(z) => Step {
@@ -40,7 +40,7 @@ fn join_step(work: Bests, side: Side, at: Place) -> Step
                 phase: at.phase,
                 a: at.a,
                 b: at.b,
-                c: work.plan.n as u32,
+                c: work.n as u32,
             },
         },
     }
@@ -59,26 +59,26 @@ fn link_line(plan: SoundPlan, i: u32, c: u32) -> Draft
 }
 
 // What the try at a place adds, of any other part than joins.
-fn try_at(work: Bests, g: u64, at: Place) -> Option<Draft>
-    requires { (at.a < outer_of work.plan.n work.plan.m work.plan.k at.phase) × (at.b < middle_of work.plan.n work.plan.k at.phase) × (at.c < inner_of work.plan.n at.phase) × (at.phase ≤ 5) × (at.phase ≢ 3) × (g ≤ 4096) × Known work.plan.n work.cells.now }
-    ensures { Tried (plan_of work.entry.plan.file.now) g work.entry.cells.now at result }
+fn try_at(plan: SoundPlan, work: Bests, g: u64, at: Place) -> Option<Draft>
+    requires { (work.n ≡ plan.n) × (at.a < outer_of plan.n plan.m plan.k at.phase) × (at.b < middle_of plan.n plan.k at.phase) × (at.c < inner_of plan.n at.phase) × (at.phase ≤ 5) × (at.phase ≢ 3) × (g ≤ 4096) × Known work.n work.cells.now }
+    ensures { Tried (plan_of plan.entry.file.now) g work.entry.cells.now at result }
 {
     match at.phase {
         0 => kept(work, start_draft(at.a)),
-        1 => kept(work, limit_draft(work.plan, at.a)),
-        2 => Some(link_line(work.plan, at.a, at.c)),
-        4 => kept(work, lower_draft(work, g, at.a, at.b)?),
-        _ => kept(work, upper_draft(work, g, at.a, at.b)?),
+        1 => kept(work, limit_draft(plan, at.a)),
+        2 => Some(link_line(plan, at.a, at.c)),
+        4 => kept(work, lower_draft(plan, work, g, at.a, at.b)?),
+        _ => kept(work, upper_draft(plan, work, g, at.a, at.b)?),
     }
 }
 
 // One step: a try, or on from a loop that is through.
-pub fn step_at(work: Bests, g: u64, at: Place) -> Step
-    requires { (at.phase < 7) × Placed (plan_of work.plan.file.now) at × (g ≤ 4096) × (TryLeft (plan_of work.plan.file.now) at → Known work.plan.n work.cells.now) }
-    ensures { Stepped (plan_of work.entry.plan.file.now) g work.entry.cells.now at result }
+pub fn step_at(plan: SoundPlan, work: Bests, g: u64, at: Place) -> Step
+    requires { (work.n ≡ plan.n) × (at.phase < 7) × Placed (plan_of plan.file.now) at × (g ≤ 4096) × (TryLeft (plan_of plan.file.now) at → Known work.n work.cells.now) }
+    ensures { Stepped (plan_of plan.entry.file.now) g work.entry.cells.now at result }
 {
     let phase = at.phase;
-    if at.a >= outer(work.plan, phase) {
+    if at.a >= outer(plan, phase) {
         return Step {
             line: None,
             next: Place {
@@ -89,7 +89,7 @@ pub fn step_at(work: Bests, g: u64, at: Place) -> Step
             },
         };
     }
-    if at.b >= middle(work.plan, phase) {
+    if at.b >= middle(plan, phase) {
         return Step {
             line: None,
             next: Place {
@@ -100,7 +100,7 @@ pub fn step_at(work: Bests, g: u64, at: Place) -> Step
             },
         };
     }
-    if at.c >= inner(work.plan, phase) {
+    if at.c >= inner(plan, phase) {
         return Step {
             line: None,
             next: Place {
@@ -118,7 +118,7 @@ pub fn step_at(work: Bests, g: u64, at: Place) -> Step
         return join_step(work, Side::Open, at);
     }
     Step {
-        line: try_at(work, g, at),
+        line: try_at(plan, work, g, at),
         next: Place {
             phase,
             a: at.a,

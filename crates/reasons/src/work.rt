@@ -15,10 +15,10 @@ pub struct Work<'a> {
 impl Work<'_> {
     // The same to be read.
     pub fn bests(&self) -> Bests<'_>
-        ensures { (result.plan ≡ self.now.plan) × (result.cells.now ≡ self.now.cells.now) }
+        ensures { (result.n ≡ self.now.plan.n) × (result.cells.now ≡ self.now.cells.now) }
     {
         Bests {
-            plan: self.plan,
+            n: self.plan.n,
             cells: self.cells,
         }
     }

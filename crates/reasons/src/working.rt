@@ -68,7 +68,7 @@ fn work_through(
     };
     let mut lines = count;
     while at.phase < until {
-        let step = step_at(work.bests(), g, at);
+        let step = step_at(work.plan, work.bests(), g, at);
         lines = take(lists, work, lines, step.line);
         if closes(step.line) {
             return ControlFlow::Break(lines);

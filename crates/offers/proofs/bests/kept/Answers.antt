@@ -6,6 +6,6 @@ pub returns : goal.returns
 returns c =
     let a = c.args in
     rw c.then_some.ensures (
-      kept_adds a.work.plan.n a.work.cells.now a.d c.weight-best.result c.requires c.weight-best.ensures c.below.result (search rules),
-      kept_notable a.work.plan.n a.work.cells.now a.d c.weight-best.result c.requires c.weight-best.ensures c.below.result,
+      kept_adds a.work.n a.work.cells.now a.d c.weight-best.result c.requires c.weight-best.ensures c.below.result (search rules),
+      kept_notable a.work.n a.work.cells.now a.d c.weight-best.result c.requires c.weight-best.ensures c.below.result,
     )

@@ -19,11 +19,11 @@ returns c =
     let same : to_z w64 (of_z w64 c.add-w.result) ≡ c.add-w.result = search rules in
     let sum = rw (first, second) at c.add-w.ensures in
     rw (same, c.join_of.ensures) (
-      join_made a.work.plan.n a.work.cells.now a.side (join_number a.side) a.x a.y a.z p.0 p.1 p.2 p.4 _ _ c.add-w.result c.weight.ensures c.weight-2.ensures sum _ _
+      join_made a.work.n a.work.cells.now a.side (join_number a.side) a.x a.y a.z p.0 p.1 p.2 p.4 _ _ c.add-w.result c.weight.ensures c.weight-2.ensures sum _ _
           c.line.ensures c.line-2.ensures,
       record {
         from = p.0;
         to = p.2;
-        number = sum_number a.work.plan.n a.work.cells.now (part_of a.side) a.x a.y a.z p.4 _ _ _ c.weight.ensures c.weight-2.ensures sum;
+        number = sum_number a.work.n a.work.cells.now (part_of a.side) a.x a.y a.z p.4 _ _ _ c.weight.ensures c.weight-2.ensures sum;
       },
     )

@@ -12,7 +12,7 @@ returns-then-below c =
       from = c.loop-at.auto.at;
       to = c.loop-at-test.true;
       none_before = c.loop-at.invariant;
-      lowers = lowers_read a.work.plan.n a.work.cells.now (part_of a.side) a.y a.x c.loop-at.at c.weight-a.result c.weight-b.result c.weight.result c.add.result c.weight-a.ensures c.weight-b.ensures c.weight.ensures
+      lowers = lowers_read a.work.n a.work.cells.now (part_of a.side) a.y a.x c.loop-at.at c.weight-a.result c.weight-b.result c.weight.result c.add.result c.weight-a.ensures c.weight-b.ensures c.weight.ensures
           (search rules) (search rules)
           ∙ c.if-below.true;
     }
@@ -21,7 +21,7 @@ pub loop-at-preserved : goal.loop-at-preserved
 loop-at-preserved c =
     let a = c.args in
     none_more c.loop-at.invariant
-    (lowers_read a.work.plan.n a.work.cells.now (part_of a.side) a.y a.x c.loop-at.at c.weight-a.result c.weight-b.result c.weight.result c.add.result c.weight-a.ensures c.weight-b.ensures c.weight.ensures (search rules) (search rules)
+    (lowers_read a.work.n a.work.cells.now (part_of a.side) a.y a.x c.loop-at.at c.weight-a.result c.weight-b.result c.weight.result c.add.result c.weight-a.ensures c.weight-b.ensures c.weight.ensures (search rules) (search rules)
     ∙ c.if-below.false)
 
 pub returns : goal.returns

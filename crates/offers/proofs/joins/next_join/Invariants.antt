@@ -4,4 +4,4 @@ use Rattle.offers.specs.Drafts.{NoneBefore}
 use Rattle.offers.proofs.joins.next_join.Given as goal
 
 abbrev pub invariant-loop-at : goal.invariant-loop-at
-invariant-loop-at l = NoneBefore l.work.plan.n l.work.cells.now (part_of l.side) l.y l.x l.z l.at
+invariant-loop-at l = NoneBefore l.work.n l.work.cells.now (part_of l.side) l.y l.x l.z l.at

@@ -22,7 +22,7 @@ step_at-step-requires c =
     let e = ready_points p.file.now p.n p.m p.k p.ready in
     let q = c.loop-at.invariant in
     rw (c.bests.ensures.0, c.bests.ensures.1, q.work_same.plan)
-    (omega (arith, c.requires.2, c.loop-at-test.true), q.going.placed, c.requires.0, known_here e q.going c.loop-at-test.true c.requires.3)
+    (refl, omega (arith, c.requires.2, c.loop-at-test.true), q.going.placed, c.requires.0, known_here e q.going c.loop-at-test.true c.requires.3)
 
 pub take-lines-requires : goal.take-lines-requires
 take-lines-requires c =
@@ -30,7 +30,7 @@ take-lines-requires c =
     let p = a.work.now.plan in
     let e = ready_points p.file.now p.n p.m p.k p.ready in
     let q = c.loop-at.invariant in
-    let step = rw (c.bests.ensures.0, c.bests.ensures.1, q.work_same.plan) at c.step_at-step.ensures in
+    let step = rw (c.bests.ensures.1, q.work_same.plan) at c.step_at-step.ensures in
     rw q.work_same.plan (
       notable_here e step,
       going_few (plan_of p.file.now) a.g a.from a.until a.lists.now.room a.count _ a.work.now.cells.now q.going c.loop-at-test.true step c.requires.3,
@@ -41,7 +41,7 @@ returns-then-closes-clause-kept c =
     let p = c.args.work.now.plan in
     let e = ready_points p.file.now p.n p.m p.k p.ready in
     let q = c.loop-at.invariant in
-    let step = rw (c.bests.ensures.0, c.bests.ensures.1, q.work_same.plan) at c.step_at-step.ensures in
+    let step = rw (c.bests.ensures.1, q.work_same.plan) at c.step_at-step.ensures in
     let t = c.take-lines.ensures in
     kept_after e q.going c.loop-at-test.true step _ _ _ t.lines (rw q.work_same.plan at t.cells) (rw q.room_same at t.lists)
 
@@ -50,7 +50,7 @@ returns-then-closes-clause-left c =
     let p = c.args.work.now.plan in
     let e = ready_points p.file.now p.n p.m p.k p.ready in
     let q = c.loop-at.invariant in
-    let step = rw (c.bests.ensures.0, c.bests.ensures.1, q.work_same.plan) at c.step_at-step.ensures in
+    let step = rw (c.bests.ensures.1, q.work_same.plan) at c.step_at-step.ensures in
     let t = c.take-lines.ensures in
     ended_here e q.going c.loop-at-test.true step _ _ _ t.lines (rw q.work_same.plan at t.cells) (rw q.room_same at t.lists) _ refl refl (sym c.closes.ensures ∙ c.if-closes.true)
 
@@ -59,7 +59,7 @@ loop-at-preserved c =
     let p = c.args.work.now.plan in
     let e = ready_points p.file.now p.n p.m p.k p.ready in
     let q = c.loop-at.invariant in
-    let step = rw (c.bests.ensures.0, c.bests.ensures.1, q.work_same.plan) at c.step_at-step.ensures in
+    let step = rw (c.bests.ensures.1, q.work_same.plan) at c.step_at-step.ensures in
     let t = c.take-lines.ensures in
     record {
       lists_same = lists_trans q.lists_same t.same.0;
