@@ -7,11 +7,12 @@ ghost use Rattle.chain.specs.Reasons.{line, link_offer, always};
 ghost use Rattle.offers.specs.Kinds.{kind_number, join_number};
 ghost use Rattle.offers.specs.Drafts.{made_of, Notable};
 ghost use Rattle.offers.specs.Work.{Known};
-ghost use Rattle.reasons.specs.Stands.{Placed, TryLeft, outer_of, middle_of, inner_of};
-ghost use Rattle.reasons.specs.Stepping.{Tried, Stepped, Joins};
+ghost use Rattle.reasons.specs.declared.Part.TheVariants.{StrictJoins, OpenJoins};
+ghost use Rattle.reasons.specs.Stands.{part_number, place_of, next_of, Placed, TryLeft, outer_of, middle_of, inner_of};
+ghost use Rattle.reasons.specs.Stepping.{Tried, Stepped, join_part};
 
 use crate::places::{inner, middle, outer};
-use crate::{Place, Step};
+use crate::{Part, Step, Turns};
 use offers::{
     Bests, Draft, join_draft, kept, limit_draft, longest_draft, lower_case_draft, lower_draft,
     next_join, shortest_draft, start_draft, upper_draft,
@@ -20,28 +21,26 @@ use reader::SoundPlan;
 use rules::Side;
 
 // A step of joins: the next column whose cell one lowers, or the end of the row.
-fn join_step(work: Bests, side: Side, at: Place) -> Step
-    requires { (at.a < work.plan.n) × (at.b < work.plan.n) × (at.c < work.plan.n) × Known work.plan.n work.cells.now × Joins side (join_number side) at.phase }
-    ensures { (p : Plan) (g : ℕ) → p.points ≡ work.entry.plan.n → Stepped p g work.entry.cells.now at result }
+fn join_step(work: Bests, side: Side, at: Turns) -> Step
+    requires { (at.a < work.plan.n) × (at.b < work.plan.n) × (at.c < work.plan.n) × Known work.plan.n work.cells.now }
+    ensures { (p : Plan) (g : ℕ) → p.points ≡ work.entry.plan.n → Stepped p g work.entry.cells.now (place_of (join_part side) at) result.line (next_of (join_part side) result.next) }
 {
     match next_join(work, side, at.a, at.b, at.c) {
         Some(z) => Step {
             line: Some(join_draft(work, side, at.a, at.b, z)),
-            next: Place {
-                phase: at.phase,
+            next: Some(Turns {
                 a: at.a,
                 b: at.b,
                 c: z + 1,
-            },
+            }),
         },
         None => Step {
             line: None,
-            next: Place {
-                phase: at.phase,
+            next: Some(Turns {
                 a: at.a,
                 b: at.b,
                 c: work.plan.n as u32,
-            },
+            }),
         },
     }
 }
@@ -59,71 +58,61 @@ fn link_line(plan: SoundPlan, i: u32, c: u32) -> Draft
 }
 
 // What the try at a place adds, of any other part than joins.
-fn try_at(work: Bests, g: u64, at: Place) -> Option<Draft>
-    requires { (at.a < outer_of work.plan.n work.plan.m work.plan.k at.phase) × (at.b < middle_of work.plan.n work.plan.k at.phase) × (at.c < inner_of work.plan.n at.phase) × (at.phase ≤ 5) × (at.phase ≢ 3) × (g ≤ 4096) × Known work.plan.n work.cells.now }
-    ensures { Tried (plan_of work.entry.plan.file.now) g work.entry.cells.now at result }
+fn try_at(work: Bests, g: u64, part: Part, at: Turns) -> Option<Draft>
+    requires { (at.a < outer_of work.plan.n work.plan.m work.plan.k (part_number part)) × (at.b < middle_of work.plan.n work.plan.k (part_number part)) × (at.c < inner_of work.plan.n (part_number part)) × (part ≢ StrictJoins) × (part ≢ OpenJoins) × (g ≤ 4096) × Known work.plan.n work.cells.now }
+    ensures { Tried (plan_of work.entry.plan.file.now) g work.entry.cells.now (place_of (part_number part) at) result }
 {
-    match at.phase {
-        0 => kept(work, start_draft(at.a)),
-        1 => kept(work, limit_draft(work.plan, at.a)),
-        2 => Some(link_line(work.plan, at.a, at.c)),
-        4 => kept(work, lower_draft(work, g, at.a, at.b)?),
-        _ => kept(work, upper_draft(work, g, at.a, at.b)?),
+    match part {
+        Part::StartEdges => kept(work, start_draft(at.a)),
+        Part::Limits => kept(work, limit_draft(work.plan, at.a)),
+        Part::Links => Some(link_line(work.plan, at.a, at.c)),
+        Part::Lower => kept(work, lower_draft(work, g, at.a, at.b)?),
+        Part::Upper => kept(work, upper_draft(work, g, at.a, at.b)?),
+        Part::StrictJoins | Part::OpenJoins => unreachable!(),
     }
 }
 
-// One step: a try, or on from a loop that is through.
-pub fn step_at(work: Bests, g: u64, at: Place) -> Step
-    requires { (at.phase < 7) × Placed (plan_of work.plan.file.now) at × (g ≤ 4096) × (TryLeft (plan_of work.plan.file.now) at → Known work.plan.n work.cells.now) }
-    ensures { Stepped (plan_of work.entry.plan.file.now) g work.entry.cells.now at result }
+// One step of a part: a try, or on from a loop that is through.
+pub fn step_at(work: Bests, g: u64, part: Part, at: Turns) -> Step
+    requires { Placed (plan_of work.plan.file.now) (place_of (part_number part) at) × (g ≤ 4096) × (TryLeft (plan_of work.plan.file.now) (place_of (part_number part) at) → Known work.plan.n work.cells.now) }
+    ensures { Stepped (plan_of work.entry.plan.file.now) g work.entry.cells.now (place_of (part_number part) at) result.line (next_of (part_number part) result.next) }
 {
-    let phase = at.phase;
-    if at.a >= outer(work.plan, phase) {
+    if at.a >= outer(work.plan, part) {
         return Step {
             line: None,
-            next: Place {
-                phase: phase + 1,
-                a: 0,
-                b: 0,
-                c: 0,
-            },
+            next: None,
         };
     }
-    if at.b >= middle(work.plan, phase) {
+    if at.b >= middle(work.plan, part) {
         return Step {
             line: None,
-            next: Place {
-                phase,
+            next: Some(Turns {
                 a: at.a + 1,
                 b: 0,
                 c: 0,
-            },
+            }),
         };
     }
-    if at.c >= inner(work.plan, phase) {
+    if at.c >= inner(work.plan, part) {
         return Step {
             line: None,
-            next: Place {
-                phase,
+            next: Some(Turns {
                 a: at.a,
                 b: at.b + 1,
                 c: 0,
-            },
+            }),
         };
     }
-    if phase == 3 {
-        return join_step(work, Side::Strict, at);
-    }
-    if phase == 6 {
-        return join_step(work, Side::Open, at);
-    }
-    Step {
-        line: try_at(work, g, at),
-        next: Place {
-            phase,
-            a: at.a,
-            b: at.b,
-            c: at.c + 1,
+    match part {
+        Part::StrictJoins => join_step(work, Side::Strict, at),
+        Part::OpenJoins => join_step(work, Side::Open, at),
+        _ => Step {
+            line: try_at(work, g, part, at),
+            next: Some(Turns {
+                a: at.a,
+                b: at.b,
+                c: at.c + 1,
+            }),
         },
     }
 }
