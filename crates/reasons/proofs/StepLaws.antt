@@ -26,9 +26,10 @@ use Rattle.offers.specs.Kinds.{kind_number, join_number}
 use Rattle.offers.specs.Work.{part_of, Standing}
 use Rattle.offers.specs.Drafts.{made_of, Offers, Adds, Notable, Plain, lowers_by, NoneBefore, Lowering}
 use Rattle.offers.proofs.OfferLaws.{weight_read, join_none, join_some, is_written}
-use Rattle.reasons.specs.Stands.{Place, steps_of, outer, middle, inner, Moves, Placed, TryLeft}
+use Rattle.reasons.specs.declared.Turns.{Turns}
+use Rattle.reasons.specs.Stands.{Place, place_of, next_of, outer_of, middle_of, inner_of, steps_of, outer, middle, inner, Moves, Placed, TryLeft}
 use Rattle.reasons.specs.Stepping.{Tried, within, beyond, Stepped, Joins, strict, weak, join_part}
-use Rattle.reasons.proofs.PlaceLaws.{move_step, move_inner, move_middle, move_part, move_passed, left_step, left_inner, left_middle, left_part}
+use Rattle.reasons.proofs.PlaceLaws.{outer_is, middle_is, inner_is, inner_most, bounded, move_step, move_inner, move_middle, move_part, move_passed, left_step, left_inner, left_middle, left_part}
 
 -- ---- a draft and its line
 
@@ -338,3 +339,13 @@ tried_link s n m k r g work at d note e h a q =
       adds = λ ls t. rw (e, link_is s n m k r at.a h) (always_adds (made_of d) (link_offer at.a (link_at s m at.a) at.c) ls a (q ls) t.going);
       notable = subst (λ (c : ℕ). Notable c d) (sym (ready_points s n m k r)) note;
     }
+
+-- a step of one try, as the code takes it
+pub try_step : {s : List ℕ} {n m k : ℕ} (r : Ready s n m k) {g : ℕ} {work : List ℤ} (q : ℕ) (at : Turns) → at.a < outer_of n m k q → at.b < middle_of n k q
+    → at.c < inner_of n q → {line d : Option Draft} {next : Option Turns} → (line ≡ d) × (next ≡ Some (record { a = at.a; b = at.b; c = at.c + 1 }))
+    → Tried (plan_of s) g work (place_of q at) d → Stepped (plan_of s) g work (place_of q at) line (next_of q next)
+try_step {s} {n} {m} {k} r {g} {work} q at ha hb hc {line} {d} is t =
+    let most = inner_most n m k q (bounded s n m k r) in
+    rw (is.0, is.1)
+    (try_left (plan_of s) g work (place_of q at) d (omega (arith, most, hc)) (omega (arith, outer_is s n m k r q, ha)) (omega (arith, middle_is s n m k r q, hb))
+    (omega (arith, inner_is s n m k r q, hc)) t)

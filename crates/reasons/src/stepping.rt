@@ -1,5 +1,5 @@
 // One step of the working-out, read from the work room and the file: nothing is written here.
-ghost use Rattle.std.specs.Prelude.{◌≡◌, ◌≢◌, true, List, ℕ, ◌≤◌, ◌<◌};
+ghost use Rattle.std.specs.Prelude.{◌≡◌, Some, true, List, ℕ, ◌+◌, ◌≤◌, ◌<◌};
 ghost use Rattle.rules.specs.Plan.{Plan};
 ghost use Rattle.plan.specs.Layout.{plan_of, link_at};
 ghost use Rattle.chain.specs.Lines.{Line};
@@ -7,7 +7,6 @@ ghost use Rattle.chain.specs.Reasons.{line, link_offer, always};
 ghost use Rattle.offers.specs.Kinds.{kind_number, join_number};
 ghost use Rattle.offers.specs.Drafts.{made_of, Notable};
 ghost use Rattle.offers.specs.Work.{Known};
-ghost use Rattle.reasons.specs.declared.Part.TheVariants.{StrictJoins, OpenJoins};
 ghost use Rattle.reasons.specs.Stands.{part_number, place_of, next_of, Placed, TryLeft, outer_of, middle_of, inner_of};
 ghost use Rattle.reasons.specs.Stepping.{Tried, Stepped, join_part};
 
@@ -57,18 +56,50 @@ fn link_line(plan: SoundPlan, i: u32, c: u32) -> Draft
     }
 }
 
-// What the try at a place adds, of any other part than joins.
-fn try_at(work: Bests, g: u64, part: Part, at: Turns) -> Option<Draft>
-    requires { (at.a < outer_of work.plan.n work.plan.m work.plan.k (part_number part)) × (at.b < middle_of work.plan.n work.plan.k (part_number part)) × (at.c < inner_of work.plan.n (part_number part)) × (part ≢ StrictJoins) × (part ≢ OpenJoins) × (g ≤ 4096) × Known work.plan.n work.cells.now }
-    ensures { Tried (plan_of work.entry.plan.file.now) g work.entry.cells.now (place_of (part_number part) at) result }
+// What the try at a place of Lower adds.
+fn lower_line(work: Bests, g: u64, at: Turns) -> Option<Draft>
+    requires { (at.a < work.plan.k) × (at.b < work.plan.k) × (g ≤ 4096) × Known work.plan.n work.cells.now }
+    ensures { Tried (plan_of work.entry.plan.file.now) g work.entry.cells.now (place_of 4 at) result }
+{
+    kept(work, lower_draft(work, g, at.a, at.b)?)
+}
+
+// And of Upper.
+fn upper_line(work: Bests, g: u64, at: Turns) -> Option<Draft>
+    requires { (at.a < work.plan.n) × (at.b < work.plan.k) × (g ≤ 4096) × Known work.plan.n work.cells.now }
+    ensures { Tried (plan_of work.entry.plan.file.now) g work.entry.cells.now (place_of 5 at) result }
+{
+    kept(work, upper_draft(work, g, at.a, at.b)?)
+}
+
+// A step of one try: its line, if it adds one, and on in the innermost loop.
+fn tried(at: Turns, line: Option<Draft>) -> Step
+    requires { at.c < 64 }
+    ensures { (result.line ≡ line) × (result.next ≡ Some (record { a = at.a; b = at.b; c = at.c + 1 })) }
+{
+    Step {
+        line,
+        next: Some(Turns {
+            a: at.a,
+            b: at.b,
+            c: at.c + 1,
+        }),
+    }
+}
+
+// The step at a place where a try is left.
+fn try_at(work: Bests, g: u64, part: Part, at: Turns) -> Step
+    requires { (at.a < outer_of work.plan.n work.plan.m work.plan.k (part_number part)) × (at.b < middle_of work.plan.n work.plan.k (part_number part)) × (at.c < inner_of work.plan.n (part_number part)) × (g ≤ 4096) × Known work.plan.n work.cells.now }
+    ensures { Stepped (plan_of work.entry.plan.file.now) g work.entry.cells.now (place_of (part_number part) at) result.line (next_of (part_number part) result.next) }
 {
     match part {
-        Part::StartEdges => kept(work, start_draft(at.a)),
-        Part::Limits => kept(work, limit_draft(work.plan, at.a)),
-        Part::Links => Some(link_line(work.plan, at.a, at.c)),
-        Part::Lower => kept(work, lower_draft(work, g, at.a, at.b)?),
-        Part::Upper => kept(work, upper_draft(work, g, at.a, at.b)?),
-        Part::StrictJoins | Part::OpenJoins => unreachable!(),
+        Part::StartEdges => tried(at, kept(work, start_draft(at.a))),
+        Part::Limits => tried(at, kept(work, limit_draft(work.plan, at.a))),
+        Part::Links => tried(at, Some(link_line(work.plan, at.a, at.c))),
+        Part::StrictJoins => join_step(work, Side::Strict, at),
+        Part::Lower => tried(at, lower_line(work, g, at)),
+        Part::Upper => tried(at, upper_line(work, g, at)),
+        Part::OpenJoins => join_step(work, Side::Open, at),
     }
 }
 
@@ -103,16 +134,5 @@ pub fn step_at(work: Bests, g: u64, part: Part, at: Turns) -> Step
             }),
         };
     }
-    match part {
-        Part::StrictJoins => join_step(work, Side::Strict, at),
-        Part::OpenJoins => join_step(work, Side::Open, at),
-        _ => Step {
-            line: try_at(work, g, part, at),
-            next: Some(Turns {
-                a: at.a,
-                b: at.b,
-                c: at.c + 1,
-            }),
-        },
-    }
+    try_at(work, g, part, at)
 }

@@ -1,10 +1,9 @@
 -- On from a loop that is through, or a try. Assumes nothing.
 use Rattle.std.proofs.Common.{arith}
 use Rattle.plan.specs.Layout.{plan_of}
-use Rattle.lowering.proofs.Laws.ReadyFile.{ready_points}
 use Rattle.reasons.specs.Stands.{part_number, place_of}
-use Rattle.reasons.proofs.PlaceLaws.{part_few, outer_is, middle_is, inner_is, inner_most, bounded, placed_most, try_before}
-use Rattle.reasons.proofs.StepLaws.{part_through, middle_through, inner_through, try_left}
+use Rattle.reasons.proofs.PlaceLaws.{part_few, outer_is, middle_is, inner_is, placed_most, try_before}
+use Rattle.reasons.proofs.StepLaws.{part_through, middle_through, inner_through}
 use Rattle.reasons.proofs.stepping.step_at.Goals as goal
 
 pub returns-then-at-outer : goal.returns-then-at-outer
@@ -38,53 +37,12 @@ returns-then-at-inner c =
     most.1 most.2 (omega (arith, turns, c.outer.ensures, c.if-at-outer.false)) (omega (arith, rows, c.middle.ensures, c.if-at-middle.false))
     (omega (arith, columns, c.inner.ensures, c.if-at-inner.true))
 
-pub join_step-requires : goal.join_step-requires
-join_step-requires c =
-    let e = c.in-StrictJoins.is in
-    let left = try_before c.args.work.plan.ready (place_of (part_number c.args.part) c.args.at) c.outer.ensures c.if-at-outer.false c.middle.ensures c.if-at-middle.false c.inner.ensures c.if-at-inner.false in (
-      rw (c.outer.ensures, e) at c.if-at-outer.false,
-      rw (c.middle.ensures, e) at c.if-at-middle.false,
-      rw (c.inner.ensures, e) at c.if-at-inner.false,
-      c.requires.2 left,
-    )
-
-pub returns-in-StrictJoins : goal.returns-in-StrictJoins
-returns-in-StrictJoins c =
-    let p = c.args.work.plan in
-    rw c.in-StrictJoins.is (c.join_step.ensures (plan_of p.file.now) c.args.g (ready_points p.file.now p.n p.m p.k p.ready))
-
-pub join_step-requires-in-OpenJoins : goal.join_step-requires-in-OpenJoins
-join_step-requires-in-OpenJoins c =
-    let e = c.in-OpenJoins.is in
-    let left = try_before c.args.work.plan.ready (place_of (part_number c.args.part) c.args.at) c.outer.ensures c.if-at-outer.false c.middle.ensures c.if-at-middle.false c.inner.ensures c.if-at-inner.false in (
-      rw (c.outer.ensures, e) at c.if-at-outer.false,
-      rw (c.middle.ensures, e) at c.if-at-middle.false,
-      rw (c.inner.ensures, e) at c.if-at-inner.false,
-      c.requires.2 left,
-    )
-
-pub returns-in-OpenJoins : goal.returns-in-OpenJoins
-returns-in-OpenJoins c =
-    let p = c.args.work.plan in
-    rw c.in-OpenJoins.is (c.join_step-in-OpenJoins.ensures (plan_of p.file.now) c.args.g (ready_points p.file.now p.n p.m p.k p.ready))
-
 pub try_at-requires : goal.try_at-requires
 try_at-requires c =
     let left = try_before c.args.work.plan.ready (place_of (part_number c.args.part) c.args.at) c.outer.ensures c.if-at-outer.false c.middle.ensures c.if-at-middle.false c.inner.ensures c.if-at-inner.false in (
       rw c.outer.ensures at c.if-at-outer.false,
       rw c.middle.ensures at c.if-at-middle.false,
       rw c.inner.ensures at c.if-at-inner.false,
-      c.in_default.not-StrictJoins,
-      c.in_default.not-OpenJoins,
       c.requires.1,
       c.requires.2 left,
     )
-
-pub returns-in_default : goal.returns-in_default
-returns-in_default c =
-    let a = c.args in
-    let p = a.work.plan in
-    let most = inner_most p.n p.m p.k (part_number a.part) (bounded p.file.now p.n p.m p.k p.ready) in
-    let left = try_before p.ready (place_of (part_number a.part) a.at) c.outer.ensures c.if-at-outer.false c.middle.ensures c.if-at-middle.false c.inner.ensures c.if-at-inner.false in
-    try_left (plan_of p.file.now) a.g a.work.cells.now (place_of (part_number a.part) a.at) c.try_at.result (omega (arith, most, c.inner.ensures, c.if-at-inner.false)) left.a left.b left.c
-    c.try_at.ensures

@@ -1,10 +1,11 @@
 -- Part by part. Assumes nothing.
-use Rattle.std.proofs.Common.{None, ap}
-use Rattle.plan.specs.Layout.{limit_at}
+use Rattle.std.proofs.Common.{ap, arith}
+use Rattle.plan.specs.Layout.{plan_of, limit_at}
+use Rattle.lowering.proofs.Laws.ReadyFile.{ready_points}
 use Rattle.chain.specs.Reasons.{start_offer, limit_offer}
-use Rattle.offers.proofs.OfferLaws.{none_adds}
 use Rattle.reasons.specs.Stands.{part_number, place_of}
-use Rattle.reasons.proofs.StepLaws.{start_plain, limit_plain, start_offers, limit_offers, tried_start, tried_limit, tried_link, tried_lower, tried_upper}
+use Rattle.reasons.proofs.PlaceLaws.{inner_most, bounded}
+use Rattle.reasons.proofs.StepLaws.{try_step, start_plain, limit_plain, start_offers, limit_offers, tried_start, tried_limit, tried_link}
 use Rattle.reasons.proofs.stepping.try_at.Goals as goal
 
 -- ---- start edges
@@ -16,8 +17,9 @@ pub returns-in-StartEdges : goal.returns-in-StartEdges
 returns-in-StartEdges c =
     let a = c.args in
     let w = a.work in
-    tried_start w.plan.file.now w.plan.n w.plan.m w.plan.k w.plan.ready a.g w.cells.now (place_of (part_number a.part) a.at) c.kept.result c.kept.ensures.1 (ap part_number c.in-StartEdges.is)
-    (c.kept.ensures.0 (start_offer a.at.a) (start_offers w.plan.n w.cells.now a.at.a c.start_draft.result c.start_draft.ensures))
+    try_step w.plan.ready (part_number a.part) a.at c.requires.0 c.requires.1 c.requires.2 c.tried.ensures
+    (tried_start w.plan.file.now w.plan.n w.plan.m w.plan.k w.plan.ready a.g w.cells.now (place_of (part_number a.part) a.at) c.kept.result c.kept.ensures.1 (ap part_number c.in-StartEdges.is)
+    (c.kept.ensures.0 (start_offer a.at.a) (start_offers w.plan.n w.cells.now a.at.a c.start_draft.result c.start_draft.ensures)))
 
 -- ---- limits
 
@@ -31,10 +33,11 @@ pub returns-in-Limits : goal.returns-in-Limits
 returns-in-Limits c =
     let a = c.args in
     let w = a.work in
-    tried_limit w.plan.file.now w.plan.n w.plan.m w.plan.k w.plan.ready a.g w.cells.now (place_of (part_number a.part) a.at) c.kept-in-Limits.result c.kept-in-Limits.ensures.1
+    try_step w.plan.ready (part_number a.part) a.at c.requires.0 c.requires.1 c.requires.2 c.tried-in-Limits.ensures
+    (tried_limit w.plan.file.now w.plan.n w.plan.m w.plan.k w.plan.ready a.g w.cells.now (place_of (part_number a.part) a.at) c.kept-in-Limits.result c.kept-in-Limits.ensures.1
     (ap part_number c.in-Limits.is) (rw c.in-Limits.is at c.requires.0)
     (c.kept-in-Limits.ensures.0 (limit_offer a.at.a (limit_at w.plan.file.now a.at.a))
-    (limit_offers w.plan.n w.cells.now a.at.a (limit_at w.plan.file.now a.at.a) c.limit_draft.result c.limit_draft.ensures))
+    (limit_offers w.plan.n w.cells.now a.at.a (limit_at w.plan.file.now a.at.a) c.limit_draft.result c.limit_draft.ensures)))
 
 -- ---- links
 
@@ -45,54 +48,59 @@ pub returns-in-Links : goal.returns-in-Links
 returns-in-Links c =
     let a = c.args in
     let w = a.work in
-    tried_link w.plan.file.now w.plan.n w.plan.m w.plan.k w.plan.ready a.g w.cells.now (place_of (part_number a.part) a.at) c.link_line.result c.link_line.ensures.1 (ap part_number c.in-Links.is)
-    (rw c.in-Links.is at c.requires.0) c.link_line.ensures.2 c.link_line.ensures.0
+    try_step w.plan.ready (part_number a.part) a.at c.requires.0 c.requires.1 c.requires.2 c.tried-in-Links.ensures
+    (tried_link w.plan.file.now w.plan.n w.plan.m w.plan.k w.plan.ready a.g w.cells.now (place_of (part_number a.part) a.at) c.link_line.result c.link_line.ensures.1 (ap part_number c.in-Links.is)
+    (rw c.in-Links.is at c.requires.0) c.link_line.ensures.2 c.link_line.ensures.0)
+
+pub tried-requires : goal.tried-requires
+tried-requires c = let w = c.args.work.plan in omega (arith, inner_most w.n w.m w.k (part_number c.args.part) (bounded w.file.now w.n w.m w.k w.ready), c.requires.2)
+
+pub tried-requires-in-Limits : goal.tried-requires-in-Limits
+tried-requires-in-Limits c = let w = c.args.work.plan in omega (arith, inner_most w.n w.m w.k (part_number c.args.part) (bounded w.file.now w.n w.m w.k w.ready), c.requires.2)
+
+pub tried-requires-in-Links : goal.tried-requires-in-Links
+tried-requires-in-Links c = let w = c.args.work.plan in omega (arith, inner_most w.n w.m w.k (part_number c.args.part) (bounded w.file.now w.n w.m w.k w.ready), c.requires.2)
+
+pub tried-requires-in-Lower : goal.tried-requires-in-Lower
+tried-requires-in-Lower c = let w = c.args.work.plan in omega (arith, inner_most w.n w.m w.k (part_number c.args.part) (bounded w.file.now w.n w.m w.k w.ready), c.requires.2)
+
+pub tried-requires-in-Upper : goal.tried-requires-in-Upper
+tried-requires-in-Upper c = let w = c.args.work.plan in omega (arith, inner_most w.n w.m w.k (part_number c.args.part) (bounded w.file.now w.n w.m w.k w.ready), c.requires.2)
 
 -- ---- Lower
 
-pub lower_draft-requires : goal.lower_draft-requires
-lower_draft-requires c = (rw c.in-Lower.is at c.requires.0, rw c.in-Lower.is at c.requires.1, c.requires.5, c.requires.6)
+pub lower_line-requires : goal.lower_line-requires
+lower_line-requires c = (rw c.in-Lower.is at c.requires.0, rw c.in-Lower.is at c.requires.1, c.requires.3, c.requires.4)
 
-pub returns-in_err-lower_draft-in-Lower : goal.returns-in_err-lower_draft-in-Lower
-returns-in_err-lower_draft-in-Lower c =
-    let a = c.args in
-    let w = a.work in
-    let offers = rw c.in_err-lower_draft-in-Lower.was at c.lower_draft.ensures.0 in
-    rw c.from_residual.ensures
-    (tried_lower w.plan.file.now w.plan.n w.plan.m w.plan.k w.plan.ready a.g w.cells.now (place_of (part_number a.part) a.at) None tt (ap part_number c.in-Lower.is) (rw c.in-Lower.is at c.requires.0)
-    (rw c.in-Lower.is at c.requires.1) (none_adds _ offers))
-
-pub kept-requires-in-Lower : goal.kept-requires-in-Lower
-kept-requires-in-Lower c = rw c.in_ok-lower_draft-in-Lower.was at c.lower_draft.ensures.1
-
-pub returns-in_ok-lower_draft-in-Lower : goal.returns-in_ok-lower_draft-in-Lower
-returns-in_ok-lower_draft-in-Lower c =
-    let a = c.args in
-    let w = a.work in
-    tried_lower w.plan.file.now w.plan.n w.plan.m w.plan.k w.plan.ready a.g w.cells.now (place_of (part_number a.part) a.at) c.kept-in-Lower.result c.kept-in-Lower.ensures.1
-    (ap part_number c.in-Lower.is) (rw c.in-Lower.is at c.requires.0) (rw c.in-Lower.is at c.requires.1)
-    (c.kept-in-Lower.ensures.0 _ (rw c.in_ok-lower_draft-in-Lower.was at c.lower_draft.ensures.0))
+pub returns-in-Lower : goal.returns-in-Lower
+returns-in-Lower c =
+    try_step c.args.work.plan.ready (part_number c.args.part) c.args.at c.requires.0 c.requires.1 c.requires.2 c.tried-in-Lower.ensures
+    (rw c.in-Lower.is c.lower_line.ensures)
 
 -- ---- Upper
 
-pub upper_draft-requires : goal.upper_draft-requires
-upper_draft-requires c = (rw c.in-Upper.is at c.requires.0, rw c.in-Upper.is at c.requires.1, c.requires.5, c.requires.6)
+pub upper_line-requires : goal.upper_line-requires
+upper_line-requires c = (rw c.in-Upper.is at c.requires.0, rw c.in-Upper.is at c.requires.1, c.requires.3, c.requires.4)
 
-pub returns-in_err-upper_draft-in-Upper : goal.returns-in_err-upper_draft-in-Upper
-returns-in_err-upper_draft-in-Upper c =
-    let a = c.args in
-    let w = a.work in
-    let offers = rw c.in_err-upper_draft-in-Upper.was at c.upper_draft.ensures.0 in
-    rw c.from_residual-in_err-upper_draft-in-Upper.ensures
-    (tried_upper w.plan.file.now w.plan.n w.plan.m w.plan.k w.plan.ready a.g w.cells.now (place_of (part_number a.part) a.at) None tt (ap part_number c.in-Upper.is) (rw c.in-Upper.is at c.requires.1)
-    (none_adds _ offers))
+pub returns-in-Upper : goal.returns-in-Upper
+returns-in-Upper c =
+    try_step c.args.work.plan.ready (part_number c.args.part) c.args.at c.requires.0 c.requires.1 c.requires.2 c.tried-in-Upper.ensures
+    (rw c.in-Upper.is c.upper_line.ensures)
 
-pub kept-requires-in-Upper : goal.kept-requires-in-Upper
-kept-requires-in-Upper c = rw c.in_ok-upper_draft-in-Upper.was at c.upper_draft.ensures.1
+-- ---- joins
 
-pub returns-in_ok-upper_draft-in-Upper : goal.returns-in_ok-upper_draft-in-Upper
-returns-in_ok-upper_draft-in-Upper c =
-    let a = c.args in
-    let w = a.work in
-    tried_upper w.plan.file.now w.plan.n w.plan.m w.plan.k w.plan.ready a.g w.cells.now (place_of (part_number a.part) a.at) c.kept-in-Upper.result c.kept-in-Upper.ensures.1
-    (ap part_number c.in-Upper.is) (rw c.in-Upper.is at c.requires.1) (c.kept-in-Upper.ensures.0 _ (rw c.in_ok-upper_draft-in-Upper.was at c.upper_draft.ensures.0))
+pub join_step-requires : goal.join_step-requires
+join_step-requires c = (rw c.in-StrictJoins.is at c.requires.0, rw c.in-StrictJoins.is at c.requires.1, rw c.in-StrictJoins.is at c.requires.2, c.requires.4)
+
+pub returns-in-StrictJoins : goal.returns-in-StrictJoins
+returns-in-StrictJoins c =
+    let p = c.args.work.plan in
+    rw c.in-StrictJoins.is (c.join_step.ensures (plan_of p.file.now) c.args.g (ready_points p.file.now p.n p.m p.k p.ready))
+
+pub join_step-requires-in-OpenJoins : goal.join_step-requires-in-OpenJoins
+join_step-requires-in-OpenJoins c = (rw c.in-OpenJoins.is at c.requires.0, rw c.in-OpenJoins.is at c.requires.1, rw c.in-OpenJoins.is at c.requires.2, c.requires.4)
+
+pub returns-in-OpenJoins : goal.returns-in-OpenJoins
+returns-in-OpenJoins c =
+    let p = c.args.work.plan in
+    rw c.in-OpenJoins.is (c.join_step-in-OpenJoins.ensures (plan_of p.file.now) c.args.g (ready_points p.file.now p.n p.m p.k p.ready))
