@@ -22,8 +22,7 @@ use Rattle.chain.proofs.BestWeights.{diagonal}
 use Rattle.chain.proofs.Places.{lowest, highest, most_lines, Small}
 use Rattle.chain.proofs.Safe.{Safe}
 use Rattle.chain.proofs.SafeSweeps.{safe}
-use Rattle.reasons.specs.declared.Place.{Place}
-use Rattle.reasons.specs.Stands.{steps_of, outer, middle, inner, through, after}
+use Rattle.reasons.specs.Stands.{Place, steps_of, outer, middle, inner, through, after}
 use Rattle.reasons.specs.Working.{Fine, FineWithin}
 
 -- ---- how far numbers go

@@ -1,12 +1,12 @@
 -- The places of the working-out: how often loops turn, and from one place to the next. Assumes nothing.
 use mathlib.Core.Path.{◌≡◌, sym, ap, ◌∙◌}
 use mathlib.Core.Logic.{⊎_elim}
-use mathlib.Core.List.{List}
+use mathlib.Core.List.{List, [], ◌∷◌}
 use Prim.Native.Nat.{ℕ, zero, suc, ◌+◌, ◌-◌, ◌≤◌, ◌<◌}
 use native.Mathlib.Nat.{eq-or-lt_of_le}
 use native.Mathlib.Numerals.{add-one}
 use native.Mathlib.Omega.{arith}
-use lib.ListN.{length}
+use lib.ListN.{length, get_or}
 use Rattle.rules.specs.Plan.{Plan, version1, InRange}
 use Rattle.plan.specs.Layout.{plan_of}
 use Rattle.plan.proofs.SoundFile.{limits_length, links_length}
@@ -14,8 +14,9 @@ use Rattle.lowering.specs.Table.{Ready}
 use Rattle.lowering.proofs.Laws.ReadyFile.{ready_points, ready_in_range}
 use Rattle.chain.specs.Lines.{Line}
 use Rattle.chain.specs.Reasons.{each}
-use Rattle.reasons.specs.declared.Place.{Place}
-use Rattle.reasons.specs.Stands.{steps_of, outer_of, middle_of, inner_of, outer, middle, inner, through, after, Moves, Placed, TryLeft, left_of}
+use Rattle.reasons.specs.declared.Part.{Part}
+use Rattle.reasons.specs.declared.Part.TheVariants.{StartEdges, Limits, Links, StrictJoins, Lower, Upper, OpenJoins}
+use Rattle.reasons.specs.Stands.{Place, part_number, InOrder, steps_of, outer_of, middle_of, inner_of, outer, middle, inner, through, after, Moves, Placed, TryLeft, left_of}
 
 -- ---- the counts of a sound file
 
@@ -34,6 +35,23 @@ module _ (s : List ℕ) (n m k : ℕ) (r : Ready s n m k) where
 
   pub inner_is : (q : ℕ) → inner (plan_of s) q ≡ inner_of n q
   inner_is q = rw (ready_points s n m k r)
+
+-- ---- the parts
+
+pub part_few : (x : Part) → part_number x < 7
+part_few StartEdges = omega arith
+part_few Limits = omega arith
+part_few Links = omega arith
+part_few StrictJoins = omega arith
+part_few Lower = omega arith
+part_few Upper = omega arith
+part_few OpenJoins = omega arith
+
+-- each of some parts in their order
+pub part_at : (q : ℕ) (parts : List Part) (i : ℕ) → InOrder q parts → i < length parts → part_number (get_or parts i StartEdges) ≡ q + i
+part_at q [] i h l = absurd (omega arith)
+part_at q (x ∷ xs) zero h l = omega (arith, h.0)
+part_at q (x ∷ xs) (suc i) h l = let k = part_at (suc q) xs i h.1 (omega arith) in omega (arith, k)
 
 -- ---- from one place to the next
 

@@ -22,14 +22,14 @@ use Rattle.lowering.proofs.Laws.ReadyFile.{ready_points, limit_range}
 use Rattle.chain.specs.Lines.{Line, start_line, limit_line, best, line_of, cells}
 use Rattle.chain.specs.Reasons.{Offer, nothing, line, always, side_of, write, ended, try, joined, strict_offer, open_offer, start_offer, limit_offer, link_offer, limit_of, link_of, lower_offer, upper_offer, lower_case_at, longest_at}
 use Rattle.offers.specs.declared.Draft.{Draft}
-use Rattle.offers.specs.Kinds.{kind_number}
+use Rattle.offers.specs.Kinds.{kind_number, join_number}
 use Rattle.offers.specs.Work.{part_of, Standing}
 use Rattle.offers.specs.Drafts.{made_of, Offers, Adds, Notable, Plain, lowers_by, NoneBefore, Lowering}
 use Rattle.offers.proofs.OfferLaws.{weight_read, join_none, join_some, is_written}
-use Rattle.reasons.specs.declared.Place.{Place}
-use Rattle.reasons.specs.Stands.{steps_of, outer, middle, inner, Moves, Placed, TryLeft}
-use Rattle.reasons.specs.Stepping.{Tried, within, beyond, Stepped, Joins, strict, weak}
-use Rattle.reasons.proofs.PlaceLaws.{move_step, move_inner, move_middle, move_part, move_passed, left_step, left_inner, left_middle, left_part}
+use Rattle.reasons.specs.declared.Turns.{Turns}
+use Rattle.reasons.specs.Stands.{Place, place_of, next_of, outer_of, middle_of, inner_of, steps_of, outer, middle, inner, Moves, Placed, TryLeft}
+use Rattle.reasons.specs.Stepping.{Tried, within, beyond, Stepped, Joins, strict, weak, join_part}
+use Rattle.reasons.proofs.PlaceLaws.{outer_is, middle_is, inner_is, inner_most, bounded, move_step, move_inner, move_middle, move_part, move_passed, left_step, left_inner, left_middle, left_part}
 
 -- ---- a draft and its line
 
@@ -94,6 +94,11 @@ module _ {n : ℕ} {ls : List Line} {work : List ℤ} (t : Standing n ls work) (
 
 -- ---- a step of joins
 
+-- the joins of a side's bests
+pub joins : (s : Side) → Joins s (join_number s) (join_part s)
+joins Strict = strict refl refl refl
+joins Open = weak refl refl refl
+
 -- the loops of joins go over all points
 joins_turn : {s : Side} {kind phase : ℕ} (p : Plan) → Joins s kind phase → (outer p phase ≡ p.points) × (middle p phase ≡ p.points) × (inner p phase ≡ p.points)
 joins_turn p (strict a b c) = rw c (refl, refl, refl)
@@ -127,7 +132,7 @@ module _ (p : Plan) (g n : ℕ) (work : List ℤ) (s : Side) (kind : ℕ) (at : 
       (λ i h k. join_passes (here ls t) p g s kind at.phase at.b at.a i hb ha (omega arith) j (q.stays i h k))
 
   pub join_none_left : NoneBefore n work (part_of s) at.a at.b at.c n
-      → Stepped p g work at (record { line = None; next = record { phase = at.phase; a = at.a; b = at.b; c = n } })
+      → Stepped p g work at None (record { phase = at.phase; a = at.a; b = at.b; c = n })
   join_none_left q =
       record {
         moves = λ ls t. passed n (omega arith) (omega arith) q ls (t left);
@@ -139,7 +144,7 @@ module _ (p : Plan) (g n : ℕ) (work : List ℤ) (s : Side) (kind : ℕ) (at : 
 
   pub join_one_left : (d : Draft) (z : ℕ) → Lowering n work (part_of s) at.a at.b at.c z
       → ((ls : List Line) → Standing n ls work → joined kind at.b z (best s at.b at.a ls) (best s at.a z ls) ≡ line (made_of d))
-      → Notable n d → Stepped p g work at (record { line = Some d; next = record { phase = at.phase; a = at.a; b = at.b; c = z + 1 } })
+      → Notable n d → Stepped p g work at (Some d) (record { phase = at.phase; a = at.a; b = at.b; c = z + 1 })
   join_one_left d z q made note =
       record {
         moves = λ ls t from h base e.
@@ -155,7 +160,7 @@ module _ (p : Plan) (g n : ℕ) (work : List ℤ) (s : Side) (kind : ℕ) (at : 
 
 module _ (p : Plan) (g : ℕ) (work : List ℤ) (at : Place) (q : Placed p at) where
   pub part_through : at.phase < 7 → at.a ≤ 1024 → at.b ≤ 64 → at.c ≤ 64 → outer p at.phase ≤ at.a
-      → Stepped p g work at (record { line = None; next = record { phase = at.phase + 1; a = 0; b = 0; c = 0 } })
+      → Stepped p g work at None (record { phase = at.phase + 1; a = 0; b = 0; c = 0 })
   part_through hp la lb lc h =
       let none = q.a_through h in
       let all : outer p at.phase ≡ at.a = omega (arith, q.a_most) in
@@ -180,7 +185,7 @@ module _ (p : Plan) (g : ℕ) (work : List ℤ) (at : Place) (q : Placed p at) w
           (move_part p g at.phase at.a ls all))
 
   pub middle_through : at.a ≤ 1024 → at.b ≤ 64 → at.c ≤ 64 → at.a < outer p at.phase → middle p at.phase ≤ at.b
-      → Stepped p g work at (record { line = None; next = record { phase = at.phase; a = at.a + 1; b = 0; c = 0 } })
+      → Stepped p g work at None (record { phase = at.phase; a = at.a + 1; b = 0; c = 0 })
   middle_through la lb lc ha h =
       let none = q.b_through h in
       let all : middle p at.phase ≡ at.b = omega (arith, q.b_most) in
@@ -204,7 +209,7 @@ module _ (p : Plan) (g : ℕ) (work : List ℤ) (at : Place) (q : Placed p at) w
           (move_middle p g at.phase at.a at.b ls all)
 
   pub inner_through : at.b ≤ 64 → at.c ≤ 64 → at.a < outer p at.phase → at.b < middle p at.phase → inner p at.phase ≤ at.c
-      → Stepped p g work at (record { line = None; next = record { phase = at.phase; a = at.a; b = at.b + 1; c = 0 } })
+      → Stepped p g work at None (record { phase = at.phase; a = at.a; b = at.b + 1; c = 0 })
   inner_through lb lc ha hb h =
       let all : inner p at.phase ≡ at.c = omega (arith, q.c_most) in
       record {
@@ -224,7 +229,7 @@ module _ (p : Plan) (g : ℕ) (work : List ℤ) (at : Place) (q : Placed p at) w
 -- a try
 pub try_left : (p : Plan) (g : ℕ) (work : List ℤ) (at : Place) (d : Option Draft) → at.c < 64 → at.a < outer p at.phase → at.b < middle p at.phase
     → at.c < inner p at.phase → Tried p g work at d
-    → Stepped p g work at (record { line = d; next = record { phase = at.phase; a = at.a; b = at.b; c = at.c + 1 } })
+    → Stepped p g work at d (record { phase = at.phase; a = at.a; b = at.b; c = at.c + 1 })
 try_left p g work at d lc ha hb hc q =
     record {
       moves = λ ls t from h base e.
@@ -334,3 +339,13 @@ tried_link s n m k r g work at d note e h a q =
       adds = λ ls t. rw (e, link_is s n m k r at.a h) (always_adds (made_of d) (link_offer at.a (link_at s m at.a) at.c) ls a (q ls) t.going);
       notable = subst (λ (c : ℕ). Notable c d) (sym (ready_points s n m k r)) note;
     }
+
+-- a step of one try, as the code takes it
+pub try_step : {s : List ℕ} {n m k : ℕ} (r : Ready s n m k) {g : ℕ} {work : List ℤ} (q : ℕ) (at : Turns) → at.a < outer_of n m k q → at.b < middle_of n k q
+    → at.c < inner_of n q → {line d : Option Draft} {next : Option Turns} → (line ≡ d) × (next ≡ Some (record { a = at.a; b = at.b; c = at.c + 1 }))
+    → Tried (plan_of s) g work (place_of q at) d → Stepped (plan_of s) g work (place_of q at) line (next_of q next)
+try_step {s} {n} {m} {k} r {g} {work} q at ha hb hc {line} {d} is t =
+    let most = inner_most n m k q (bounded s n m k r) in
+    rw (is.0, is.1)
+    (try_left (plan_of s) g work (place_of q at) d (omega (arith, most, hc)) (omega (arith, outer_is s n m k r q, ha)) (omega (arith, middle_is s n m k r q, hb))
+    (omega (arith, inner_is s n m k r q, hc)) t)

@@ -5,7 +5,7 @@ use mathlib.Core.Bool.{true, false, true≢false}
 use Rattle.std.specs.Prelude.{Option, Some, None, IfSome, is_some}
 use mathlib.Core.List.{List}
 use Prim.Native.Nat.{ℕ, zero, suc, ◌+◌, ◌*◌, ◌-◌, ◌≤◌, ◌<◌}
-use native.Mathlib.Nat.{eq-or-lt_of_le}
+use native.Mathlib.Nat.{add-zero, eq-or-lt_of_le}
 use native.Mathlib.Numerals.{add-one}
 use native.Mathlib.Omega.{arith}
 use lib.ListN.{length}
@@ -21,10 +21,8 @@ use Rattle.chain.proofs.Tries.{Stops, try_stops, each_stops, each_rest}
 use Rattle.offers.specs.declared.Draft.{Draft}
 use Rattle.offers.specs.Work.{Holds, Standing, Known}
 use Rattle.offers.specs.Drafts.{made_of, added, Notable}
-use Rattle.reasons.specs.declared.Place.{Place}
-use Rattle.reasons.specs.declared.Step.{Step}
 use Rattle.std.specs.declared.ops.ControlFlow.{ControlFlow}
-use Rattle.reasons.specs.Stands.{steps_of, outer, middle, inner, through, after, Placed, TryLeft}
+use Rattle.reasons.specs.Stands.{Place, steps_of, outer, middle, inner, through, after, Placed, TryLeft}
 use Rattle.reasons.specs.Stepping.{GoesOn, within, beyond, Stepped}
 use Rattle.reasons.specs.Notes.{taken_count, taken_work, taken_lists, closes_of, laid}
 use Rattle.reasons.specs.Working.{Fine, Begun, Begins, Left, lines_of, ended_of}
@@ -186,46 +184,46 @@ module _ (p : Plan) (g from until room count₀ : ℕ) (lists₀ : Lists) (work�
     pub going_known : Begins p g from until room count₀ lists₀ work₀ → TryLeft p at → Known p.points work
     going_known b l = record { lines = after p g from at b.base; standing = standing_at b.begun l }
 
-    module _ {r : Step} (step : Stepped p g work at r) where
+    module _ {d : Option Draft} {next : Place} (step : Stepped p g work at d next) where
       -- a line only where a try was left
-      left_for : r.line ≢ None → TryLeft p at × ((r.next.phase ≡ at.phase) × (r.next.a ≡ at.a) × (r.next.b ≡ at.b))
+      left_for : d ≢ None → TryLeft p at × ((next.phase ≡ at.phase) × (next.a ≡ at.a) × (next.b ≡ at.b))
       left_for ne = by step.goes
         where
-          by : GoesOn p at r → TryLeft p at × ((r.next.phase ≡ at.phase) × (r.next.a ≡ at.a) × (r.next.b ≡ at.b))
+          by : GoesOn p at d next → TryLeft p at × ((next.phase ≡ at.phase) × (next.a ≡ at.a) × (next.b ≡ at.b))
           by (within e (inl z)) = absurd (ne z)
           by (within e (inr l)) = (l.0, (e, l.1, l.2))
           by (beyond z e) = absurd (ne z)
 
       -- it is not one too many
-      pub going_few : Begins p g from until room count₀ lists₀ work₀ → r.line ≢ None → count < roomy.reach
+      pub going_few : Begins p g from until room count₀ lists₀ work₀ → d ≢ None → count < roomy.reach
       going_few b ne =
           let f = fine_at b.begun (left_for ne).0 in
           omega (arith, f.few, (q.stands b.base b.first b.begun).0.counted)
 
       next_is : {base : List Line} {first : Lists} → Begun p g from until room base first count₀ lists₀ work₀
-          → added r.line (after p g from at base) ≡ after p g from r.next base
+          → added d (after p g from at base) ≡ after p g from next base
       next_is {base} {first} b = step.moves (after p g from at base) (λ l. standing_at b l) from q.low base refl
 
       next_holding : {base : List Line} {first : Lists} → Begun p g from until room base first count₀ lists₀ work₀
-          → Holding p.points room (after p g from r.next base) first (taken_count r.line count) (taken_lists room r.line count lists)
-          (taken_work p.points r.line count work)
+          → Holding p.points room (after p g from next base) first (taken_count d count) (taken_lists room d count lists)
+          (taken_work p.points d count work)
       next_holding {base} {first} b =
           subst
-          (λ (ls : List Line). Holding p.points room ls first (taken_count r.line count) (taken_lists room r.line count lists) (taken_work p.points r.line count work))
+          (λ (ls : List Line). Holding p.points room ls first (taken_count d count) (taken_lists room d count lists) (taken_work p.points d count work))
           (next_is b)
-          (taken_holding (q.stands base first b).0 r.line step.notable (λ ne. fine_at b (left_for ne).0))
+          (taken_holding (q.stands base first b).0 d step.notable (λ ne. fine_at b (left_for ne).0))
 
       next_ended : {base : List Line} {first : Lists} → Begun p g from until room base first count₀ lists₀ work₀
-          → ended (after p g from r.next base) ≡ closes_of r.line
-      next_ended {base} {first} b = ap ended (sym (next_is b)) ∙ closes_is r.line (after p g from at base) (q.stands base first b).1
+          → ended (after p g from next base) ≡ closes_of d
+      next_ended {base} {first} b = ap ended (sym (next_is b)) ∙ closes_is d (after p g from at base) (q.stands base first b).1
 
-      pub going_kept : Kept (4 * (p.points * p.points)) work₀ (taken_work p.points r.line count work)
-      going_kept = kept_trans q.kept (taken_kept p.points r.line count work step.notable)
+      pub going_kept : Kept (4 * (p.points * p.points)) work₀ (taken_work p.points d count work)
+      going_kept = kept_trans q.kept (taken_kept p.points d count work step.notable)
 
       -- one step more
-      pub going_more : closes_of r.line ≡ false
-          → Going p g from until room count₀ lists₀ work₀ r.next (taken_count r.line count) (taken_lists room r.line count lists)
-          (taken_work p.points r.line count work)
+      pub going_more : closes_of d ≡ false
+          → Going p g from until room count₀ lists₀ work₀ next (taken_count d count) (taken_lists room d count lists)
+          (taken_work p.points d count work)
       going_more e =
           record {
             placed = step.placed;
@@ -236,35 +234,35 @@ module _ (p : Plan) (g from until room count₀ : ℕ) (lists₀ : Lists) (work�
             stands = λ base first b. (next_holding b, next_ended b ∙ e);
           }
         where
-          low : GoesOn p at r → from ≤ r.next.phase
+          low : GoesOn p at d next → from ≤ next.phase
           low (within f l) = omega (arith, q.low)
-          low (beyond z f) = let n : r.next.phase ≡ at.phase + 1 = ap (λ (c : Place). c.phase) f in omega (arith, q.low)
+          low (beyond z f) = let n : next.phase ≡ at.phase + 1 = ap (λ (c : Place). c.phase) f in omega (arith, q.low)
 
-          high : GoesOn p at r → r.next.phase ≤ until
+          high : GoesOn p at d next → next.phase ≤ until
           high (within f l) = omega arith
-          high (beyond z f) = let n : r.next.phase ≡ at.phase + 1 = ap (λ (c : Place). c.phase) f in omega arith
+          high (beyond z f) = let n : next.phase ≡ at.phase + 1 = ap (λ (c : Place). c.phase) f in omega arith
 
-          fresh : GoesOn p at r → r.next.phase ≡ until → (r.next.a ≡ 0) × (r.next.b ≡ 0) × (r.next.c ≡ 0)
+          fresh : GoesOn p at d next → next.phase ≡ until → (next.a ≡ 0) × (next.b ≡ 0) × (next.c ≡ 0)
           fresh (within f l) h = absurd (omega arith)
           fresh (beyond z f) h = (ap (λ (c : Place). c.a) f, ap (λ (c : Place). c.b) f, ap (λ (c : Place). c.c) f)
 
       -- the list has ended
-      pub going_ended : (run : ControlFlow ℕ ℕ) → lines_of run ≡ taken_count r.line count → ended_of run ≡ true → closes_of r.line ≡ true
+      pub going_ended : (run : ControlFlow ℕ ℕ) → lines_of run ≡ taken_count d count → ended_of run ≡ true → closes_of d ≡ true
           → (base : List Line) (first : Lists) → Begun p g from until room base first count₀ lists₀ work₀
-          → Left p.points room (through p g from (until - from) base) first run (taken_lists room r.line count lists) (taken_work p.points r.line count work)
+          → Left p.points room (through p g from (until - from) base) first run (taken_lists room d count lists) (taken_work p.points d count work)
       going_ended run el ee e base first b =
-          let some : r.line ≢ None = λ z. true≢false (sym e ∙ closes_none r.line z) in
+          let some : d ≢ None = λ z. true≢false (sym e ∙ closes_none d z) in
           let l = left_for some in
           let h = next_holding b in
-          let all : through p g from (until - from) base ≡ after p g from r.next base =
-          ended_through p g from until r.next base (omega (arith, q.low, l.1.0)) (omega (arith, l.1.0)) (next_a l.1.0 l.1.1 l.0.a) (next_b l.1.0 l.1.2 l.0.b)
+          let all : through p g from (until - from) base ≡ after p g from next base =
+          ended_through p g from until next base (omega (arith, q.low, l.1.0)) (omega (arith, l.1.0)) (next_a l.1.0 l.1.1 l.0.a) (next_b l.1.0 l.1.2 l.0.b)
           step.placed.c_most (next_ended b ∙ e) in
           rw all (record { holds = h.holds; counted = el ∙ h.counted; ends = ee ∙ sym (next_ended b ∙ e); are = h.are })
         where
-          next_a : r.next.phase ≡ at.phase → r.next.a ≡ at.a → at.a < outer p at.phase → r.next.a < outer p r.next.phase
+          next_a : next.phase ≡ at.phase → next.a ≡ at.a → at.a < outer p at.phase → next.a < outer p next.phase
           next_a f z h = rw (f, z) h
 
-          next_b : r.next.phase ≡ at.phase → r.next.b ≡ at.b → at.b < middle p at.phase → r.next.b < middle p r.next.phase
+          next_b : next.phase ≡ at.phase → next.b ≡ at.b → at.b < middle p at.phase → next.b < middle p next.phase
           next_b f z h = rw (f, z) h
 
   -- all the parts done
@@ -281,8 +279,8 @@ module _ (p : Plan) (g from until room count₀ : ℕ) (lists₀ : Lists) (work�
 
 -- ---- the same of a sound file of n points, as the code has it
 
-pub notable_here : {p : Plan} {n g : ℕ} {work : List ℤ} {at : Place} {r : Step} → p.points ≡ n → Stepped p g work at r → IfSome r.line (Notable n)
-notable_here {r} e step = subst (λ (c : ℕ). IfSome r.line (Notable c)) e step.notable
+pub notable_here : {p : Plan} {n g : ℕ} {work : List ℤ} {at : Place} {d : Option Draft} {next : Place} → p.points ≡ n → Stepped p g work at d next → IfSome d (Notable n)
+notable_here {d} e step = subst (λ (c : ℕ). IfSome d (Notable c)) e step.notable
 
 module _ {p : Plan} {n g from until room count₀ : ℕ} {lists₀ : Lists} {work₀ : List ℤ} (e : p.points ≡ n) where
   pub known_here : {at : Place} {count : ℕ} {lists : Lists} {work : List ℤ} → Going p g from until room count₀ lists₀ work₀ at count lists work → at.phase < until
@@ -294,20 +292,108 @@ module _ {p : Plan} {n g from until room count₀ : ℕ} {lists₀ : Lists} {wor
   kept_here {work} q = subst (λ (c : ℕ). Kept (4 * (c * c)) work₀ work) e q.kept
 
   module _ {at : Place} {count : ℕ} {lists : Lists} {work : List ℤ} (q : Going p g from until room count₀ lists₀ work₀ at count lists work) (hu : at.phase < until)
-      {r : Step} (step : Stepped p g work at r) (count' : ℕ) (lists' : Lists) (work' : List ℤ) (ec : count' ≡ taken_count r.line count)
-      (ew : work' ≡ taken_work n r.line count work) (el : lists' ≡ taken_lists room r.line count lists) where
-    pub more_here : closes_of r.line ≡ false → Going p g from until room count₀ lists₀ work₀ r.next count' lists' work'
+      {d : Option Draft} {next : Place} (step : Stepped p g work at d next) (count' : ℕ) (lists' : Lists) (work' : List ℤ) (ec : count' ≡ taken_count d count)
+      (ew : work' ≡ taken_work n d count work) (el : lists' ≡ taken_lists room d count lists) where
+    pub more_here : closes_of d ≡ false → Going p g from until room count₀ lists₀ work₀ next count' lists' work'
     more_here c = rw (ec, ew, el, ← e) (going_more p g from until room count₀ lists₀ work₀ q hu step c)
 
     pub kept_after : Kept (4 * (n * n)) work₀ work'
     kept_after = rw (ew, ← e) (going_kept p g from until room count₀ lists₀ work₀ q hu step)
 
-    pub ended_here : (run : ControlFlow ℕ ℕ) → lines_of run ≡ count' → ended_of run ≡ true → closes_of r.line ≡ true → (base : List Line) (first : Lists)
-        → Begun p g from until room base first count₀ lists₀ work₀ → Left n room (through p g from (until - from) base) first run lists' work'
-    ended_here run l d c base first b =
-        rw (ew, el, ← e) (going_ended p g from until room count₀ lists₀ work₀ q hu step run (l ∙ ec) d c base first b)
+    pub ended_here : {i : ℕ} → until - from ≡ i → (run : ControlFlow ℕ ℕ) → lines_of run ≡ count' → ended_of run ≡ true → closes_of d ≡ true
+        → (base : List Line) (first : Lists) → Begun p g from until room base first count₀ lists₀ work₀ → Left n room (through p g from i base) first run lists' work'
+    ended_here all run l t c base first b =
+        rw (ew, el, ← e, ← all) (going_ended p g from until room count₀ lists₀ work₀ q hu step run (l ∙ ec) t c base first b)
 
   pub done_here : {at : Place} {count : ℕ} {lists : Lists} {work : List ℤ} → Going p g from until room count₀ lists₀ work₀ at count lists work → until ≤ at.phase
-      → (run : ControlFlow ℕ ℕ) → lines_of run ≡ count → ended_of run ≡ false → (base : List Line) (first : Lists)
-      → Begun p g from until room base first count₀ lists₀ work₀ → Left n room (through p g from (until - from) base) first run lists work
-  done_here q hu run l d base first b = rw (← e) (going_done p g from until room count₀ lists₀ work₀ q hu run l d base first b)
+      → {i : ℕ} → until - from ≡ i → (run : ControlFlow ℕ ℕ) → lines_of run ≡ count → ended_of run ≡ false → (base : List Line) (first : Lists)
+      → Begun p g from until room base first count₀ lists₀ work₀ → Left n room (through p g from i base) first run lists work
+  done_here q hu all run l d base first b = rw (← e, ← all) (going_done p g from until room count₀ lists₀ work₀ q hu run l d base first b)
+
+-- ---- part after part
+
+-- so many parts done, from one on
+pub record Done (p : Plan) (g from until room count₀ : ℕ) (lists₀ : Lists) (work₀ : List ℤ) (i count : ℕ) (lists : Lists) (work : List ℤ) : Type 0 where
+  pub kept : Kept (4 * (p.points * p.points)) work₀ work
+  pub stands : (base : List Line) (first : Lists) → Begun p g from until room base first count₀ lists₀ work₀
+      → Holding p.points room (through p g from i base) first count lists work × (ended (through p g from i base) ≡ false)
+
+-- the list at a place of one part is what it is there of all the parts
+after_done : (p : Plan) (g from i : ℕ) (at : Place) (base : List Line) → at.phase ≡ from + i → after p g (from + i) at (through p g from i base) ≡ after p g from at base
+unfolding after
+after_done p g from i at base e =
+    let none : at.phase - (from + i) ≡ 0 = omega arith in
+    let all : at.phase - from ≡ i = omega arith in
+    rw (none, all)
+
+-- one part more
+part_more : (p : Plan) (g from i : ℕ) (base : List Line) → through p g (from + i) 1 (through p g from i base) ≡ through p g from (suc i) base
+part_more p g from i base = rw (add-zero (from + i))
+
+module _ {p : Plan} {g from until room count₀ : ℕ} {lists₀ : Lists} {work₀ : List ℤ} where
+  pub done_none : Done p g from until room count₀ lists₀ work₀ 0 count₀ lists₀ work₀
+  done_none =
+      record {
+        kept = kept_refl (4 * (p.points * p.points)) work₀;
+        stands = λ base first b. (record { holds = b.holds; counted = b.counted; are = b.are }, b.going);
+      }
+
+  module _ {i count : ℕ} {lists : Lists} {work : List ℤ} (q : Done p g from until room count₀ lists₀ work₀ i count lists work) where
+    -- what the next part begins with
+    done_begun : from + i < until → {base : List Line} {first : Lists} → Begun p g from until room base first count₀ lists₀ work₀
+        → Begun p g (from + i) (from + i + 1) room (through p g from i base) first count lists work
+    done_begun hu {base} {first} b =
+        let h = q.stands base first b in
+        record {
+          holds = h.0.holds;
+          counted = h.0.counted;
+          are = h.0.are;
+          going = h.1;
+          fine = λ at low high ha hb hc e.
+              let same : after p g (from + i) at (through p g from i base) ≡ after p g from at base = after_done p g from i at base (omega arith) in
+              rw same (b.fine at (omega arith) (omega arith) ha hb hc (sym (ap ended same) ∙ e));
+        }
+
+    pub done_begins : from + i < until → Begins p g from until room count₀ lists₀ work₀ → Begins p g (from + i) (from + i + 1) room count lists work
+    done_begins hu b = record { base = through p g from i b.base; first = b.first; begun = done_begun hu b.begun }
+
+    module _ (hu : from + i < until) {n : ℕ} (e : p.points ≡ n) {run : ControlFlow ℕ ℕ} {lists' : Lists} {work' : List ℤ} (k : Kept (4 * (n * n)) work work')
+        (left : (base : List Line) (first : Lists) → Begun p g (from + i) (from + i + 1) room base first count lists work
+        → Left n room (through p g (from + i) 1 base) first run lists' work') where
+      -- what it leaves
+      one : {base : List Line} {first : Lists} → Begun p g from until room base first count₀ lists₀ work₀
+          → Left p.points room (through p g from (suc i) base) first run lists' work'
+      one {base} {first} b =
+          subst (λ (ls : List Line). Left p.points room ls first run lists' work') (part_more p g from i base)
+          (subst (λ (m : ℕ). Left m room (through p g (from + i) 1 (through p g from i base)) first run lists' work') (sym e)
+          (left (through p g from i base) first (done_begun hu b)))
+
+      pub done_kept : Kept (4 * (n * n)) work₀ work'
+      done_kept = kept_trans (subst (λ (m : ℕ). Kept (4 * (m * m)) work₀ work) e q.kept) k
+
+      pub done_more : ended_of run ≡ false → Done p g from until room count₀ lists₀ work₀ (i + 1) (lines_of run) lists' work'
+      done_more t =
+          rw (add-one i)
+          record {
+            kept = subst (λ (m : ℕ). Kept (4 * (m * m)) work₀ work') (sym e) done_kept;
+            stands = λ base first b. let l = one b in (record { holds = l.holds; counted = l.counted; are = l.are }, sym l.ends ∙ t);
+          }
+
+      -- no further part adds anything where it has ended the list
+      pub done_ended : {j : ℕ} → until - from ≡ j → ended_of run ≡ true → (base : List Line) (first : Lists) → Begun p g from until room base first count₀ lists₀ work₀
+          → Left n room (through p g from j base) first run lists' work'
+      done_ended {j} all t base first b =
+          let l = one b in
+          let rest : through p g from j base ≡ through p g from (suc i) base = through_rest p g from (suc i) j base (omega arith) (sym l.ends ∙ t) in
+          subst (λ (m : ℕ). Left m room (through p g from j base) first run lists' work') e (rw rest l)
+
+    -- all of them done
+    module _ {n : ℕ} (e : p.points ≡ n) where
+      pub all_kept : Kept (4 * (n * n)) work₀ work
+      all_kept = subst (λ (m : ℕ). Kept (4 * (m * m)) work₀ work) e q.kept
+
+      pub all_done : {j : ℕ} → i ≡ j → (run : ControlFlow ℕ ℕ) → lines_of run ≡ count → ended_of run ≡ false → (base : List Line) (first : Lists)
+          → Begun p g from until room base first count₀ lists₀ work₀ → Left n room (through p g from j base) first run lists work
+      all_done all run l t base first b =
+          let h = q.stands base first b in
+          rw (← all, ← e) (record { holds = h.0.holds; counted = l ∙ h.0.counted; ends = t ∙ sym h.1; are = h.0.are })

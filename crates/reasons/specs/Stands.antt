@@ -1,10 +1,47 @@
--- Where the working-out of a reason list stands, as the code counts it: in which of its seven parts, and how many steps of the three loops of that part are
--- done. Parts 0 to 2 are what is given, parts 3 to 6 are a sweep. Assumes nothing.
-use Rattle.std.specs.Prelude.{◌≡◌, List, ℕ, zero, suc, ◌+◌, ◌*◌, ◌-◌, ◌≤◌, ◌<◌, length}
+-- Where the working-out of a reason list stands, by numbers: in which of its seven parts, and how many steps of the three loops of that part are done. Parts
+-- 0 to 2 are what is given, parts 3 to 6 are a sweep. Assumes nothing.
+use Rattle.std.specs.Prelude.{◌≡◌, Option, Some, None, List, [], ◌∷◌, ℕ, zero, suc, ◌+◌, ◌*◌, ◌-◌, ◌≤◌, ◌<◌, length}
 use Rattle.rules.specs.Plan.{Plan}
 use Rattle.chain.specs.Lines.{Line}
 use Rattle.chain.specs.Places.{Steps, pass, part, start_steps, limit_steps, link_steps, strict_steps, lower_steps, upper_steps, open_steps}
-use Rattle.reasons.specs.declared.Place.{Place}
+use Rattle.reasons.specs.declared.Part.{Part}
+use Rattle.reasons.specs.declared.Part.TheVariants.{StartEdges, Limits, Links, StrictJoins, Lower, Upper, OpenJoins}
+use Rattle.reasons.specs.declared.Turns.{Turns}
+
+-- the numbers of the parts
+abbrev pub part_number : Part → ℕ
+part_number StartEdges = 0
+part_number Limits = 1
+part_number Links = 2
+part_number StrictJoins = 3
+part_number Lower = 4
+part_number Upper = 5
+part_number OpenJoins = 6
+
+-- of some parts that of the first one
+abbrev pub first_of : List Part → ℕ
+first_of [] = 0
+first_of (x ∷ xs) = part_number x
+
+-- parts in their order, from one on
+abbrev pub InOrder : ℕ → List Part → Type 0
+InOrder q [] = Unit {0}
+InOrder q (x ∷ xs) = (part_number x ≡ q) × InOrder (suc q) xs
+
+-- a place: the number of a part, and the steps of its loops that are done
+pub record Place : Type 0 where
+  pub phase : ℕ
+  pub a : ℕ
+  pub b : ℕ
+  pub c : ℕ
+
+abbrev pub place_of : ℕ → Turns → Place
+place_of q at = record { phase = q; a = at.a; b = at.b; c = at.c }
+
+-- where it goes on: within a part, or with the next one
+abbrev pub next_of : ℕ → Option Turns → Place
+next_of q None = record { phase = q + 1; a = 0; b = 0; c = 0 }
+next_of q (Some at) = place_of q at
 
 -- the steps of a part, with g lines before those of the links
 abbrev pub steps_of : Plan → ℕ → ℕ → Steps

@@ -11,8 +11,7 @@ use Rattle.chain.specs.Lines.{Line, still, best, cells}
 use Rattle.chain.specs.Reasons.{ended, sweeps, ReasonList}
 use Rattle.chain.specs.Call.{Lists}
 use Rattle.offers.specs.Work.{Holds}
-use Rattle.reasons.specs.declared.Place.{Place}
-use Rattle.reasons.specs.Stands.{outer, middle, inner, after}
+use Rattle.reasons.specs.Stands.{Place, outer, middle, inner, after}
 use Rattle.reasons.specs.Notes.{laid}
 
 -- a list so far from which the working-out can go on: its weights and its lines are not too many, and no line leads from a point to itself

@@ -23,20 +23,33 @@ use reader::read;
 use rules::{Answer, Refusal};
 use work::Work;
 
-// Where the working-out stands: in which of its seven parts, and how many steps of the three loops of that part are done.
+// The parts of the working-out, in their order: those of what is given, and those of a sweep.
 #[derive(Clone, Copy)]
-pub struct Place {
-    pub phase: u32,
+pub enum Part {
+    // what is given
+    StartEdges,
+    Limits,
+    Links,
+    // a sweep
+    StrictJoins,
+    Lower,
+    Upper,
+    OpenJoins,
+}
+
+// Where the working-out stands within a part: how many steps of its three loops are done.
+#[derive(Clone, Copy)]
+pub struct Turns {
     pub a: u32,
     pub b: u32,
     pub c: u32,
 }
 
-// One step: a line, if there is one, and where it goes on.
+// One step: a line, if there is one, and where it goes on in its part, unless that is through.
 #[derive(Clone, Copy)]
 pub struct Step {
     pub line: Option<Draft>,
-    pub next: Place,
+    pub next: Option<Turns>,
 }
 
 // The chain of reasons of a plan file, into six lent slices, with a lent work room. It is total: it takes any bytes and any slices.

@@ -1,5 +1,5 @@
 // One step of the working-out, read from the work room and the file: nothing is written here.
-ghost use Rattle.std.specs.Prelude.{◌≡◌, ◌≢◌, true, List, ℕ, ◌≤◌, ◌<◌};
+ghost use Rattle.std.specs.Prelude.{◌≡◌, Some, true, List, ℕ, ◌+◌, ◌≤◌, ◌<◌};
 ghost use Rattle.rules.specs.Plan.{Plan};
 ghost use Rattle.plan.specs.Layout.{plan_of, link_at};
 ghost use Rattle.chain.specs.Lines.{Line};
@@ -7,11 +7,11 @@ ghost use Rattle.chain.specs.Reasons.{line, link_offer, always};
 ghost use Rattle.offers.specs.Kinds.{kind_number, join_number};
 ghost use Rattle.offers.specs.Drafts.{made_of, Notable};
 ghost use Rattle.offers.specs.Work.{Known};
-ghost use Rattle.reasons.specs.Stands.{Placed, TryLeft, outer_of, middle_of, inner_of};
-ghost use Rattle.reasons.specs.Stepping.{Tried, Stepped, Joins};
+ghost use Rattle.reasons.specs.Stands.{part_number, place_of, next_of, Placed, TryLeft, outer_of, middle_of, inner_of};
+ghost use Rattle.reasons.specs.Stepping.{Tried, Stepped, join_part};
 
 use crate::places::{inner, middle, outer};
-use crate::{Place, Step};
+use crate::{Part, Step, Turns};
 use offers::{
     Bests, Draft, join_draft, kept, limit_draft, longest_draft, lower_case_draft, lower_draft,
     next_join, shortest_draft, start_draft, upper_draft,
@@ -20,28 +20,26 @@ use reader::SoundPlan;
 use rules::Side;
 
 // A step of joins: the next column whose cell one lowers, or the end of the row.
-fn join_step(work: Bests, side: Side, at: Place) -> Step
-    requires { (at.a < work.n) × (at.b < work.n) × (at.c < work.n) × Known work.n work.cells.now × Joins side (join_number side) at.phase }
-    ensures { (p : Plan) (g : ℕ) → p.points ≡ work.entry.n → Stepped p g work.entry.cells.now at result }
+fn join_step(work: Bests, side: Side, at: Turns) -> Step
+    requires { (at.a < work.n) × (at.b < work.n) × (at.c < work.n) × Known work.n work.cells.now }
+    ensures { (p : Plan) (g : ℕ) → p.points ≡ work.entry.n → Stepped p g work.entry.cells.now (place_of (join_part side) at) result.line (next_of (join_part side) result.next) }
 {
     match next_join(work, side, at.a, at.b, at.c) {
         Some(z) => Step {
             line: Some(join_draft(work, side, at.a, at.b, z)),
-            next: Place {
-                phase: at.phase,
+            next: Some(Turns {
                 a: at.a,
                 b: at.b,
                 c: z + 1,
-            },
+            }),
         },
         None => Step {
             line: None,
-            next: Place {
-                phase: at.phase,
+            next: Some(Turns {
                 a: at.a,
                 b: at.b,
                 c: work.n as u32,
-            },
+            }),
         },
     }
 }
@@ -58,72 +56,83 @@ fn link_line(plan: SoundPlan, i: u32, c: u32) -> Draft
     }
 }
 
-// What the try at a place adds, of any other part than joins.
-fn try_at(plan: SoundPlan, work: Bests, g: u64, at: Place) -> Option<Draft>
-    requires { (work.n ≡ plan.n) × (at.a < outer_of plan.n plan.m plan.k at.phase) × (at.b < middle_of plan.n plan.k at.phase) × (at.c < inner_of plan.n at.phase) × (at.phase ≤ 5) × (at.phase ≢ 3) × (g ≤ 4096) × Known work.n work.cells.now }
-    ensures { Tried (plan_of plan.entry.file.now) g work.entry.cells.now at result }
+// What the try at a place of Lower adds.
+fn lower_line(plan: SoundPlan, work: Bests, g: u64, at: Turns) -> Option<Draft>
+    requires { (work.n ≡ plan.n) × (at.a < plan.k) × (at.b < plan.k) × (g ≤ 4096) × Known work.n work.cells.now }
+    ensures { Tried (plan_of plan.entry.file.now) g work.entry.cells.now (place_of 4 at) result }
 {
-    match at.phase {
-        0 => kept(work, start_draft(at.a)),
-        1 => kept(work, limit_draft(plan, at.a)),
-        2 => Some(link_line(plan, at.a, at.c)),
-        4 => kept(work, lower_draft(plan, work, g, at.a, at.b)?),
-        _ => kept(work, upper_draft(plan, work, g, at.a, at.b)?),
-    }
+    kept(work, lower_draft(plan, work, g, at.a, at.b)?)
 }
 
-// One step: a try, or on from a loop that is through.
-pub fn step_at(plan: SoundPlan, work: Bests, g: u64, at: Place) -> Step
-    requires { (work.n ≡ plan.n) × (at.phase < 7) × Placed (plan_of plan.file.now) at × (g ≤ 4096) × (TryLeft (plan_of plan.file.now) at → Known work.n work.cells.now) }
-    ensures { Stepped (plan_of plan.entry.file.now) g work.entry.cells.now at result }
+// And of Upper.
+fn upper_line(plan: SoundPlan, work: Bests, g: u64, at: Turns) -> Option<Draft>
+    requires { (work.n ≡ plan.n) × (at.a < work.n) × (at.b < plan.k) × (g ≤ 4096) × Known work.n work.cells.now }
+    ensures { Tried (plan_of plan.entry.file.now) g work.entry.cells.now (place_of 5 at) result }
 {
-    let phase = at.phase;
-    if at.a >= outer(plan, phase) {
-        return Step {
-            line: None,
-            next: Place {
-                phase: phase + 1,
-                a: 0,
-                b: 0,
-                c: 0,
-            },
-        };
-    }
-    if at.b >= middle(plan, phase) {
-        return Step {
-            line: None,
-            next: Place {
-                phase,
-                a: at.a + 1,
-                b: 0,
-                c: 0,
-            },
-        };
-    }
-    if at.c >= inner(plan, phase) {
-        return Step {
-            line: None,
-            next: Place {
-                phase,
-                a: at.a,
-                b: at.b + 1,
-                c: 0,
-            },
-        };
-    }
-    if phase == 3 {
-        return join_step(work, Side::Strict, at);
-    }
-    if phase == 6 {
-        return join_step(work, Side::Open, at);
-    }
+    kept(work, upper_draft(plan, work, g, at.a, at.b)?)
+}
+
+// A step of one try: its line, if it adds one, and on in the innermost loop.
+fn tried(at: Turns, line: Option<Draft>) -> Step
+    requires { at.c < 64 }
+    ensures { (result.line ≡ line) × (result.next ≡ Some (record { a = at.a; b = at.b; c = at.c + 1 })) }
+{
     Step {
-        line: try_at(plan, work, g, at),
-        next: Place {
-            phase,
+        line,
+        next: Some(Turns {
             a: at.a,
             b: at.b,
             c: at.c + 1,
-        },
+        }),
     }
+}
+
+// The step at a place where a try is left.
+fn try_at(plan: SoundPlan, work: Bests, g: u64, part: Part, at: Turns) -> Step
+    requires { (work.n ≡ plan.n) × (at.a < outer_of plan.n plan.m plan.k (part_number part)) × (at.b < middle_of plan.n plan.k (part_number part)) × (at.c < inner_of plan.n (part_number part)) × (g ≤ 4096) × Known work.n work.cells.now }
+    ensures { Stepped (plan_of plan.entry.file.now) g work.entry.cells.now (place_of (part_number part) at) result.line (next_of (part_number part) result.next) }
+{
+    match part {
+        Part::StartEdges => tried(at, kept(work, start_draft(at.a))),
+        Part::Limits => tried(at, kept(work, limit_draft(plan, at.a))),
+        Part::Links => tried(at, Some(link_line(plan, at.a, at.c))),
+        Part::StrictJoins => join_step(work, Side::Strict, at),
+        Part::Lower => tried(at, lower_line(plan, work, g, at)),
+        Part::Upper => tried(at, upper_line(plan, work, g, at)),
+        Part::OpenJoins => join_step(work, Side::Open, at),
+    }
+}
+
+// One step of a part: a try, or on from a loop that is through.
+pub fn step_at(plan: SoundPlan, work: Bests, g: u64, part: Part, at: Turns) -> Step
+    requires { (work.n ≡ plan.n) × Placed (plan_of plan.file.now) (place_of (part_number part) at) × (g ≤ 4096) × (TryLeft (plan_of plan.file.now) (place_of (part_number part) at) → Known work.n work.cells.now) }
+    ensures { Stepped (plan_of plan.entry.file.now) g work.entry.cells.now (place_of (part_number part) at) result.line (next_of (part_number part) result.next) }
+{
+    if at.a >= outer(plan, part) {
+        return Step {
+            line: None,
+            next: None,
+        };
+    }
+    if at.b >= middle(plan, part) {
+        return Step {
+            line: None,
+            next: Some(Turns {
+                a: at.a + 1,
+                b: 0,
+                c: 0,
+            }),
+        };
+    }
+    if at.c >= inner(plan, part) {
+        return Step {
+            line: None,
+            next: Some(Turns {
+                a: at.a,
+                b: at.b + 1,
+                c: 0,
+            }),
+        };
+    }
+    try_at(plan, work, g, part, at)
 }

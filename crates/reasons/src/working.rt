@@ -1,5 +1,5 @@
 // The working-out of a reason list, part by part.
-ghost use Rattle.std.specs.Prelude.{◌≡◌, ◌≢◌, IfSome, List, ℕ, ◌*◌, ◌-◌, ◌≤◌, ◌<◌, length};
+ghost use Rattle.std.specs.Prelude.{◌≡◌, ◌≢◌, IfSome, List, ℕ, ◌+◌, ◌*◌, ◌≤◌, ◌<◌, length};
 ghost use Rattle.rules.specs.Calls.{Kept};
 ghost use Rattle.cell.specs.Steps.{roomy};
 ghost use Rattle.plan.specs.Layout.{plan_of};
@@ -7,15 +7,15 @@ ghost use Rattle.chain.specs.Lines.{Line};
 ghost use Rattle.chain.specs.Reasons.{before_links, sweeps};
 ghost use Rattle.chain.specs.Call.{Lists as Slices};
 ghost use Rattle.offers.specs.Drafts.{Notable};
-ghost use Rattle.reasons.specs.Stands.{through};
+ghost use Rattle.reasons.specs.Stands.{part_number, first_of, InOrder, through};
 ghost use Rattle.reasons.specs.Notes.{taken_count, taken_work, taken_lists, closes_of};
 ghost use Rattle.reasons.specs.Lent.{lists_of, SameLists, SameWork};
 ghost use Rattle.reasons.specs.Working.{Begun, Begins, Left, Swept, Sweeping, Worked};
 
-use crate::Place;
 use crate::lists::Lists;
 use crate::stepping::step_at;
 use crate::work::Work;
+use crate::{Part, Turns};
 use offers::Draft;
 use std::ops::ControlFlow;
 
@@ -45,35 +45,48 @@ fn take(lists: &mut Lists<'_>, work: &mut Work<'_>, lines: u64, d: Option<Draft>
     lines + 1
 }
 
-// The parts from one on and before another, of a list that has not ended, with g lines before those of the links. How many lines there are then: it breaks
-// off at a line that ends the list.
-fn work_through(
+// One part of a list that has not ended, with g lines before those of the links. How many lines there are then: it breaks off at a line that ends the list.
+fn work_part(
     lists: &mut Lists<'_>,
     work: &mut Work<'_>,
     g: u64,
-    from: u32,
-    until: u32,
+    part: Part,
     count: u64,
 ) -> ControlFlow<u64, u64>
-    requires { (g ≤ 4096) × (from ≤ until) × (until ≤ 7) × Begins (plan_of work.old.plan.file.now) g from until lists.old.room count (lists_of lists.old) work.old.cells.now }
+    requires { (g ≤ 4096) × Begins (plan_of work.old.plan.file.now) g (part_number part) (part_number part + 1) lists.old.room count (lists_of lists.old) work.old.cells.now }
     ensures same { SameLists lists.old lists.new × (lists.new.room ≡ lists.old.room) × SameWork work.old work.new }
     ensures kept { Kept (4 * (work.old.plan.n * work.old.plan.n)) work.old.cells.now work.new.cells.now }
-    ensures left { (base : List Line) (first : Slices) → Begun (plan_of work.old.plan.file.now) g from until lists.old.room base first count (lists_of lists.old) work.old.cells.now → Left work.old.plan.n lists.old.room (through (plan_of work.old.plan.file.now) g from (until - from) base) first result (lists_of lists.new) work.new.cells.now }
+    ensures left { (base : List Line) (first : Slices) → Begun (plan_of work.old.plan.file.now) g (part_number part) (part_number part + 1) lists.old.room base first count (lists_of lists.old) work.old.cells.now → Left work.old.plan.n lists.old.room (through (plan_of work.old.plan.file.now) g (part_number part) 1 base) first result (lists_of lists.new) work.new.cells.now }
 {
-    let mut at = Place {
-        phase: from,
-        a: 0,
-        b: 0,
-        c: 0,
-    };
+    let mut next = Some(Turns { a: 0, b: 0, c: 0 });
     let mut lines = count;
-    while at.phase < until {
-        let step = step_at(work.plan, work.bests(), g, at);
+    while let Some(at) = next {
+        let step = step_at(work.plan, work.bests(), g, part, at);
         lines = take(lists, work, lines, step.line);
         if closes(step.line) {
             return ControlFlow::Break(lines);
         }
-        at = step.next;
+        next = step.next;
+    }
+    ControlFlow::Continue(lines)
+}
+
+// Parts one after another.
+fn work_through(
+    lists: &mut Lists<'_>,
+    work: &mut Work<'_>,
+    g: u64,
+    parts: &[Part],
+    count: u64,
+) -> ControlFlow<u64, u64>
+    requires { (g ≤ 4096) × InOrder (first_of parts.now) parts.now × Begins (plan_of work.old.plan.file.now) g (first_of parts.now) (first_of parts.now + length parts.now) lists.old.room count (lists_of lists.old) work.old.cells.now }
+    ensures same { SameLists lists.old lists.new × (lists.new.room ≡ lists.old.room) × SameWork work.old work.new }
+    ensures kept { Kept (4 * (work.old.plan.n * work.old.plan.n)) work.old.cells.now work.new.cells.now }
+    ensures left { (base : List Line) (first : Slices) → Begun (plan_of work.old.plan.file.now) g (first_of parts.now) (first_of parts.now + length parts.now) lists.old.room base first count (lists_of lists.old) work.old.cells.now → Left work.old.plan.n lists.old.room (through (plan_of work.old.plan.file.now) g (first_of parts.now) (length parts.now) base) first result (lists_of lists.new) work.new.cells.now }
+{
+    let mut lines = count;
+    for part in parts {
+        lines = work_part(lists, work, g, *part, lines)?;
     }
     ControlFlow::Continue(lines)
 }
@@ -87,7 +100,13 @@ fn sweep_on(lists: &mut Lists<'_>, work: &mut Work<'_>, g: u64, count: u64) -> C
 {
     let mut lines = count;
     loop {
-        let swept = work_through(lists, work, g, 3, 7, lines)?;
+        let swept = work_through(
+            lists,
+            work,
+            g,
+            &[Part::StrictJoins, Part::Lower, Part::Upper, Part::OpenJoins],
+            lines,
+        )?;
         if swept == lines {
             return ControlFlow::Continue(lines);
         }
@@ -102,7 +121,7 @@ pub fn run(lists: &mut Lists<'_>, work: &mut Work<'_>) -> ControlFlow<u64, u64>
     ensures worked { Worked (plan_of work.old.plan.file.now) lists.old.room (lists_of lists.old) result (lists_of lists.new) work.new.cells.now }
 {
     work.begin();
-    let before = work_through(lists, work, 0, 0, 2, 0)?;
-    let given = work_through(lists, work, 0, 2, 3, before)?;
+    let before = work_through(lists, work, 0, &[Part::StartEdges, Part::Limits], 0)?;
+    let given = work_through(lists, work, 0, &[Part::Links], before)?;
     sweep_on(lists, work, before, given)
 }

@@ -14,7 +14,7 @@ work_through-requires c =
     let e = ready_points p.file.now p.n p.m p.k p.ready in
     let r = ready_in_range p.file.now p.n p.m p.k p.ready in
     let lent = lists_of c.args.lists.now in
-    rw c.begin.ensures.same.plan (omega arith, omega arith, omega arith, record { base = []; first = lent; begun = begun_none e r c.begin.ensures.holds })
+    rw c.begin.ensures.same.plan (omega arith, (refl, (refl, tt)), record { base = []; first = lent; begun = begun_none e r c.begin.ensures.holds })
 
 pub returns-in_err-before-clause-worked : goal.returns-in_err-before-clause-worked
 returns-in_err-before-clause-worked c =
@@ -35,7 +35,7 @@ work_through-requires-2 c =
     let one = (rw (c.begin.ensures.same.plan, c.in_ok-before.was) at before.left) [] lent (begun_none e r c.begin.ensures.holds) in
     let same = work_trans c.begin.ensures.same before.same.2 in
     rw (before.same.1, same.plan)
-    (omega arith, omega arith, omega arith, record { base = before_links (plan_of p.file.now); first = lent; begun = begun_before e r one refl })
+    (omega arith, (refl, tt), record { base = before_links (plan_of p.file.now); first = lent; begun = begun_before e r one refl })
 
 pub returns-in_err-given-clause-worked : goal.returns-in_err-given-clause-worked
 returns-in_err-given-clause-worked c =

@@ -13,7 +13,7 @@ work_through-requires c =
     let r = ready_in_range p.file.now p.n p.m p.k p.ready in
     let q = c.loop-swept.invariant in
     rw (q.room_same, q.work_same.plan)
-    (omega (arith, before_few (plan_of p.file.now) r, c.requires.0), omega arith, omega arith, sweeping_begins e c.requires.0 r q.sweeping)
+    (omega (arith, before_few (plan_of p.file.now) r, c.requires.0), (refl, (refl, (refl, (refl, tt)))), sweeping_begins e c.requires.0 r q.sweeping)
 
 pub returns-in_err-swept-clause-worked : goal.returns-in_err-swept-clause-worked
 returns-in_err-swept-clause-worked c =

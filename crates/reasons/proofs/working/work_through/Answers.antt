@@ -1,79 +1,62 @@
--- A turn of the loop for each step, and the place falls.
-use Rattle.std.proofs.Common.{refl, sym, ◌∙◌, arith}
-use Rattle.plan.specs.Layout.{plan_of}
+-- One part more, and all of them.
+use Rattle.std.proofs.Common.{refl, ◌∙◌, arith}
 use Rattle.lowering.proofs.Laws.ReadyFile.{ready_points}
 use Rattle.reasons.proofs.LentLaws.{lists_refl, lists_trans, work_refl, work_trans}
-use Rattle.reasons.proofs.WorkLaws.{going_none, going_few, known_here, notable_here, kept_here, more_here, kept_after, ended_here, done_here}
+use Rattle.reasons.proofs.PlaceLaws.{part_at}
+use Rattle.reasons.proofs.WorkLaws.{done_none, done_begins, done_kept, done_more, done_ended, all_kept, all_done}
 use Rattle.reasons.proofs.working.work_through.Goals as goal
 
-pub loop-at-init : goal.loop-at-init
-loop-at-init c =
-    let a = c.args in
+pub loop-part-init : goal.loop-part-init
+loop-part-init c = record { lists_same = lists_refl; room_same = refl; work_same = work_refl; done = done_none }
+
+pub work_part-requires : goal.work_part-requires
+work_part-requires c =
+    let q = c.loop-part.invariant in
+    let is = part_at _ c.args.parts.now c.loop-part.part-index c.requires.1 c.loop-part-test.true in
+    rw (is, q.work_same.plan, q.room_same) (c.requires.0, done_begins q.done (omega (arith, c.loop-part-test.true)) c.requires.2)
+
+pub returns-in_err-lines-clause-kept : goal.returns-in_err-lines-clause-kept
+returns-in_err-lines-clause-kept c =
+    let p = c.args.work.now.plan in
+    let e = ready_points p.file.now p.n p.m p.k p.ready in
+    let q = c.loop-part.invariant in
+    let w = c.work_part.ensures in
+    let is = part_at _ c.args.parts.now c.loop-part.part-index c.requires.1 c.loop-part-test.true in
+    done_kept q.done (omega (arith, c.loop-part-test.true)) e (rw q.work_same.plan at w.kept) (rw (is, q.work_same.plan, q.room_same) at w.left)
+
+pub returns-in_err-lines-clause-left : goal.returns-in_err-lines-clause-left
+returns-in_err-lines-clause-left c =
+    let p = c.args.work.now.plan in
+    let e = ready_points p.file.now p.n p.m p.k p.ready in
+    let q = c.loop-part.invariant in
+    let w = c.work_part.ensures in
+    let is = part_at _ c.args.parts.now c.loop-part.part-index c.requires.1 c.loop-part-test.true in
+    let left = rw (is, q.work_same.plan, q.room_same, c.in_err-lines.was) at w.left in
+    rw c.from_residual.ensures
+    (done_ended q.done (omega (arith, c.loop-part-test.true)) e (rw q.work_same.plan at w.kept) left (omega arith) refl)
+
+pub loop-part-preserved : goal.loop-part-preserved
+loop-part-preserved c =
+    let p = c.args.work.now.plan in
+    let e = ready_points p.file.now p.n p.m p.k p.ready in
+    let q = c.loop-part.invariant in
+    let w = c.work_part.ensures in
+    let is = part_at _ c.args.parts.now c.loop-part.part-index c.requires.1 c.loop-part-test.true in
+    let left = rw (is, q.work_same.plan, q.room_same, c.in_ok-lines.was) at w.left in
     record {
-      lists_same = lists_refl;
-      room_same = refl;
-      work_same = work_refl;
-      going = going_none (plan_of a.work.now.plan.file.now) a.g a.from a.until a.lists.now.room a.count _ a.work.now.cells.now c.requires.1;
-    }
-
-pub step_at-step-requires : goal.step_at-step-requires
-step_at-step-requires c =
-    let p = c.args.work.now.plan in
-    let e = ready_points p.file.now p.n p.m p.k p.ready in
-    let q = c.loop-at.invariant in
-    rw (c.bests.ensures.0, c.bests.ensures.1, q.work_same.plan)
-    (refl, omega (arith, c.requires.2, c.loop-at-test.true), q.going.placed, c.requires.0, known_here e q.going c.loop-at-test.true c.requires.3)
-
-pub take-lines-requires : goal.take-lines-requires
-take-lines-requires c =
-    let a = c.args in
-    let p = a.work.now.plan in
-    let e = ready_points p.file.now p.n p.m p.k p.ready in
-    let q = c.loop-at.invariant in
-    let step = rw (c.bests.ensures.1, q.work_same.plan) at c.step_at-step.ensures in
-    rw q.work_same.plan (
-      notable_here e step,
-      going_few (plan_of p.file.now) a.g a.from a.until a.lists.now.room a.count _ a.work.now.cells.now q.going c.loop-at-test.true step c.requires.3,
-    )
-
-pub returns-then-closes-clause-kept : goal.returns-then-closes-clause-kept
-returns-then-closes-clause-kept c =
-    let p = c.args.work.now.plan in
-    let e = ready_points p.file.now p.n p.m p.k p.ready in
-    let q = c.loop-at.invariant in
-    let step = rw (c.bests.ensures.1, q.work_same.plan) at c.step_at-step.ensures in
-    let t = c.take-lines.ensures in
-    kept_after e q.going c.loop-at-test.true step _ _ _ t.lines (rw q.work_same.plan at t.cells) (rw q.room_same at t.lists)
-
-pub returns-then-closes-clause-left : goal.returns-then-closes-clause-left
-returns-then-closes-clause-left c =
-    let p = c.args.work.now.plan in
-    let e = ready_points p.file.now p.n p.m p.k p.ready in
-    let q = c.loop-at.invariant in
-    let step = rw (c.bests.ensures.1, q.work_same.plan) at c.step_at-step.ensures in
-    let t = c.take-lines.ensures in
-    ended_here e q.going c.loop-at-test.true step _ _ _ t.lines (rw q.work_same.plan at t.cells) (rw q.room_same at t.lists) _ refl refl (sym c.closes.ensures ∙ c.if-closes.true)
-
-pub loop-at-preserved : goal.loop-at-preserved
-loop-at-preserved c =
-    let p = c.args.work.now.plan in
-    let e = ready_points p.file.now p.n p.m p.k p.ready in
-    let q = c.loop-at.invariant in
-    let step = rw (c.bests.ensures.1, q.work_same.plan) at c.step_at-step.ensures in
-    let t = c.take-lines.ensures in
-    record {
-      lists_same = lists_trans q.lists_same t.same.0;
-      room_same = t.same.1 ∙ q.room_same;
-      work_same = work_trans q.work_same t.same.2;
-      going = more_here e q.going c.loop-at-test.true step _ _ _ t.lines (rw q.work_same.plan at t.cells) (rw q.room_same at t.lists) (sym c.closes.ensures ∙ c.if-closes.false);
+      lists_same = lists_trans q.lists_same w.same.0;
+      room_same = w.same.1 ∙ q.room_same;
+      work_same = work_trans q.work_same w.same.2;
+      done = done_more q.done (omega (arith, c.loop-part-test.true)) e (rw q.work_same.plan at w.kept) left refl;
     }
 
 pub returns-clause-kept : goal.returns-clause-kept
 returns-clause-kept c =
     let p = c.args.work.now.plan in
-    kept_here (ready_points p.file.now p.n p.m p.k p.ready) c.loop-at.invariant.going
+    all_kept c.loop-part.invariant.done (ready_points p.file.now p.n p.m p.k p.ready)
 
 pub returns-clause-left : goal.returns-clause-left
 returns-clause-left c =
     let p = c.args.work.now.plan in
-    done_here (ready_points p.file.now p.n p.m p.k p.ready) c.loop-at.invariant.going c.loop-at-test.false _ refl refl
+    let q = c.loop-part.invariant in
+    all_done q.done (ready_points p.file.now p.n p.m p.k p.ready) (omega (arith, c.loop-part-test.false, c.loop-part.auto.part-index-end)) _ refl refl
