@@ -3,28 +3,40 @@
 
 ghost use Rattle.std.specs.Prelude.{◌≡◌, ◌+◌, ◌≤◌, length};
 ghost use Rattle.std.proofs.lemmas.List.Edits.{sets};
-ghost use Rattle.fields.specs.Bytes.{word_at, signed_at, word_bytes, bits_of};
+ghost use Rattle.fields.specs.Bytes.{byte_at, word_at, signed_at, word_bytes, bits_of};
+
+// The byte i places after a position; past the end it counts as 0.
+fn byte_at(file: &[u8], at: usize, i: usize) -> u8
+    ensures { result ≡ byte_at file.now (at + i) }
+{
+    let size = file.len();
+    if size <= at {
+        return 0;
+    }
+    if size - at <= i {
+        return 0;
+    }
+    file[at + i]
+}
 
 // The unsigned field at a position; a byte past the file's end counts as 0.
-// A field that lies whole in the file is asked for by its two ends, of which the compiler makes one comparison with the file's length;
-// the test that the end does not wrap it leaves out where the position is made of 32-bit numbers. The match on what follows the position
-// could read a whole field too, but would compare twice.
+// A field that lies whole in the file is read behind one comparison with the file's length. The test before it, that `at + 4` does not wrap, is of the position
+// alone: where that is made of 32-bit numbers the compiler leaves it out. By `get` and `first_chunk` it compared twice in a loop.
 #[tactic(auto, unfolding(crate::specs::Bytes::word_at))]
 pub fn unsigned_at(file: &[u8], at: usize) -> u32
     ensures { result ≡ word_at file.now at }
 {
-    let whole = at
-        .checked_add(4)
-        .and_then(|end| file.get(at..end)?.first_chunk::<4>());
-    if let Some(field) = whole {
-        return u32::from_le_bytes(*field);
+    if at <= usize::MAX - 4 {
+        if at + 4 <= file.len() {
+            return u32::from_le_bytes([file[at], file[at + 1], file[at + 2], file[at + 3]]);
+        }
     }
-    match file.get(at..).unwrap_or(&[]) {
-        &[a, b, c, ..] => u32::from_le_bytes([a, b, c, 0]),
-        &[a, b] => u32::from_le_bytes([a, b, 0, 0]),
-        &[a] => u32::from_le_bytes([a, 0, 0, 0]),
-        [] => 0,
-    }
+    u32::from_le_bytes([
+        byte_at(file, at, 0),
+        byte_at(file, at, 1),
+        byte_at(file, at, 2),
+        byte_at(file, at, 3),
+    ])
 }
 
 // The signed field at a position.

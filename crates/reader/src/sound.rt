@@ -4,6 +4,7 @@ ghost use Rattle.plan.specs.Layout.{limit_at, link_at};
 ghost use Rattle.plan.specs.Values.{limit_of, link_of};
 ghost use Rattle.plan.specs.Ready.{Ready};
 
+use crate::{limit_of, link_of};
 use plan::{Limit, Link};
 
 // A lent plan file of n points, m limits and k links. That the file is sound and has those counts is part of the type.
@@ -21,13 +22,13 @@ impl<'a> SoundPlan<'a> {
     pub fn limit(self, i: u32) -> Limit
         ensures { limit_of result ≡ limit_at self.entry.file.now i }
     {
-        plan::limit_at(self.file, i)
+        limit_of(self.file, self.n, self.m, self.k, i)
     }
 
     // Link i.
     pub fn link(self, i: u32) -> Link
         ensures { link_of result ≡ link_at self.entry.file.now self.entry.m i }
     {
-        plan::link_at(self.file, self.m, i)
+        link_of(self.file, self.n, self.m, self.k, i)
     }
 }
