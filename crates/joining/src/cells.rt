@@ -1,7 +1,10 @@
-// Lent lists of cells: one cell read and written, and the mark in the first cells.
+// Lent lists of cells: one cell read and written, a row by a middle point, and the mark in the first cells.
 ghost use Rattle.std.specs.Prelude.{◌≡◌, ◌+◌, ◌*◌, ◌≤◌, ◌<◌, length, get_or, set, pos};
 ghost use Rattle.rules.specs.Cells.{cell_of};
+ghost use Rattle.cell.specs.Steps.{Summed};
+ghost use Rattle.lowering.specs.Table.{Sound};
 ghost use Rattle.lowering.specs.Sweep.{lower_cell, mark_all};
+ghost use Rattle.lowering.specs.Spread.{row_by};
 
 use cell::Word;
 
@@ -36,6 +39,17 @@ pub fn lower_cell<W: Word>(t: &mut [W], n: usize, x: usize, y: usize, c: W)
 {
     let new = c.kept().smaller(get(t, n, x, y));
     put(t, x * n + y, new);
+}
+
+// Row x of a list that is a table by the cells from y, with a what leads from x to y. It is handed the slice and the size, which a loop over a table would read
+// anew at each cell: so a compiler takes several cells at once.
+pub fn row_by<W: Word>(t: &mut [W], n: usize, y: usize, x: usize, a: W)
+    requires { (x < n) × (y < n) × (n ≤ 64) × Sound W.ranges n (W.values t.old) × Summed W.ranges.reach (cell_of W.ranges.mark (W.value a)) }
+    ensures { W.values t.new ≡ row_by W.ranges n y x (cell_of W.ranges.mark (W.value a)) (W.values t.old) }
+{
+    for z in 0..n {
+        lower_cell(t, n, x, z, a.onward(get(t, n, y, z)));
+    }
 }
 
 // The first cells all the mark.

@@ -6,6 +6,6 @@ mod cells;
 mod table;
 mod view;
 
-pub use cells::{get, lower_cell, mark_all};
+pub use cells::{cell_at, get, lower_cell, mark_all, row_by};
 pub use table::Table;
 pub use view::View;

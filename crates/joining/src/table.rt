@@ -9,7 +9,7 @@ ghost use Rattle.lowering.specs.Sweep.{lower_cell, join_row, join_middle, join_a
 ghost use Rattle.lowering.specs.Spread.{row_by};
 ghost use Rattle.joining.specs.Lent.{Sound-prop};
 
-use crate::cells::{get, lower_cell, mark_all};
+use crate::cells::{get, lower_cell, mark_all, row_by};
 use crate::view::View;
 use cell::Word;
 use plan::Limit;
@@ -87,9 +87,7 @@ impl<W: Word> Table<'_, W> {
         requires { (x < self.old.n) × (y < self.old.n) × Summed W.ranges.reach (cell_of W.ranges.mark (W.value a)) }
         ensures { Takes (row_by W.ranges self.old.n y x (cell_of W.ranges.mark (W.value a))) self.old self.new }
     {
-        for z in 0..self.n {
-            self.lower_cell(x, z, a.onward(self.get(y, z)));
-        }
+        row_by(self.cells, self.n, y, x, a);
     }
 
     // Row x by the middle y, with the cell x to y taken out of the loop.
