@@ -102,19 +102,44 @@ fn points(file: &[u8]) -> usize
     if n <= 64 { n } else { 0 }
 }
 
+// How many cells from the first one on hold a number.
+fn same(cells: &[i64], v: i64) -> usize
+    ensures { result ≤ length cells.now }
+{
+    cells
+        .iter()
+        .position(|cell| *cell != v)
+        .unwrap_or(cells.len())
+}
+
 // Prints of a scratch that held 7 in every cell how many cells from the first one on are 0 now, and how many behind those still hold 7.
 fn print_scratch(rt: &impl Print, scratch: &[i64]) -> io::Result<()> {
-    let zeros = scratch.iter().take_while(|cell| **cell == 0).count();
-    let kept = scratch
-        .iter()
-        .skip_while(|cell| **cell == 0)
-        .take_while(|cell| **cell == 7)
-        .count();
+    let zeros = same(scratch, 0);
+    let kept = same(&scratch[zeros..], 7);
     println!(rt; "scratch {zeros} {kept}")
 }
 
-// Add of limits that lie one behind the other, in that order, each with a scratch that is not clean.
+// Add of a limit, with a scratch that is not clean. It is a function of its own so that a file with no limit to add clears no scratch.
 fn added(
+    rt: &impl Print,
+    file: &[u8],
+    limit: &[u8],
+    strict: &mut [i32],
+    open: &mut [i32],
+) -> io::Result<()> {
+    let x = unsigned_at(limit, 0);
+    let y = unsigned_at(limit, 4);
+    let w = signed_at(limit, 8);
+    println!(rt; "limit {x}>{y} {}", Shown(w))?;
+    let mut scratch = [7i64; 8192];
+    let a = post::add(file, x, y, w, strict, open, &mut scratch);
+    println!(rt; "add {}", Numbers(a))?;
+    print_tables(rt, strict, open, points(file))?;
+    print_scratch(rt, &scratch)
+}
+
+// Add of limits that lie one behind the other, in that order.
+fn added_all(
     rt: &impl Print,
     file: &[u8],
     limits: &[u8],
@@ -122,15 +147,7 @@ fn added(
     open: &mut [i32],
 ) -> io::Result<()> {
     for limit in limits.chunks_exact(12) {
-        let x = unsigned_at(limit, 0);
-        let y = unsigned_at(limit, 4);
-        let w = signed_at(limit, 8);
-        println!(rt; "limit {x}>{y} {}", Shown(w))?;
-        let mut scratch = [7i64; 8192];
-        let a = post::add(file, x, y, w, strict, open, &mut scratch);
-        println!(rt; "add {}", Numbers(a))?;
-        print_tables(rt, strict, open, points(file))?;
-        print_scratch(rt, &scratch)?;
+        added(rt, file, limit, strict, open)?;
     }
     Ok(())
 }
@@ -147,7 +164,7 @@ fn judged(rt: &impl Print, file: &[u8], limits: &[u8]) -> io::Result<()> {
         print_tables(rt, &strict, &open, points(file))?;
     }
     println!(rt; "check {}", Numbers(post::check(file, &strict, &open)))?;
-    added(rt, file, limits, &mut strict, &mut open)
+    added_all(rt, file, limits, &mut strict, &mut open)
 }
 
 // Earliest of a file.

@@ -5,7 +5,7 @@ ghost use Rattle.std.specs.Prelude.{◌≡◌, ◌≤◌, length, take, Some, If
 ghost use Rattle.std.specs.Io.KnownBytes.{Appends, Consumes};
 ghost use Rattle.console.specs.Verdict.{numbers_of, verdict_of};
 
-use answers::{code, place};
+use answers::{accepted, code, place};
 use rules::Answer;
 use std::fmt;
 use std::io::{self, Read, Write};
@@ -44,8 +44,8 @@ pub fn read_full<R: Read>(input: &mut R, bytes: &mut [u8]) -> io::Result<usize>
 pub fn write_verdict<W: Write>(out: &mut W, a: Answer) -> io::Result<()>
     ensures { OnOk result (Appends (W.contents out.old) (W.contents out.new) (verdict_of a)) }
 {
-    match a {
-        Ok(()) => writeln!(out, "controllable"),
-        Err(_) => writeln!(out, "refused {}", Numbers(a)),
+    if accepted(a) {
+        return writeln!(out, "controllable");
     }
+    writeln!(out, "refused {}", Numbers(a))
 }
